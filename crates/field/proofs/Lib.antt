@@ -1,0 +1,5 @@
+pub mod NumberLoops
+pub mod SignLaws
+pub mod TextLoops
+pub mod DigitLaws
+pub mod TextLaws

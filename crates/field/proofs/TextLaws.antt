@@ -1,0 +1,190 @@
+-- The laws of a text in a field: padding, trimming, the first bytes, and a text as one number (specs/Texts.antt).
+-- Assumes nothing.
+use Prim.Native.Nat.{ℕ, zero, suc, _+_, _-_, _≤_, _<_}
+use mathlib.Core.Bool.{Bool, true, false}
+use mathlib.Core.List.{List, [], _∷_, _++_}
+use mathlib.Core.Path.{_≡_, refl, ap, sym, _∙_}
+use mathlib.Core.Logic.{⊎-elim}
+use native.Mathlib.Nat.{not-suc-le-zero, le-of-suc-le-suc, eq-or-lt-of-le}
+use native.Mathlib.Decide.{decLt}
+use native.Mathlib.Omega.{arith}
+use lib.Dec.{eqb}
+use lib.ListN.{length, getD, take, replicate, length-append, length-replicate, getD-replicate, List·getD-append}
+use lib.Seq.{take-all, take-at, take-take, take-append-le, length-take-le, getD-take, getD-append-add, ext-getD}
+use borrow.Author.Tests.{eqb-true, eq-eqb}
+use Rattle.laws.specs.Row.{pick, each}
+use Rattle.laws.proofs.FindLaws.{true-false}
+use Rattle.laws.proofs.RowLaws.{and-true, true-and}
+use Rattle.field.specs.declared.class.Class.{Class}
+use Rattle.field.specs.declared.class.Class.the-variants.{Blank, Text}
+use Rattle.field.specs.Bytes.{inClass, allOf, blanks}
+use Rattle.field.specs.Texts.{padded, trimTo, trimmed, firstBytes, base256, wordOf}
+use Rattle.field.proofs.TextLoops.{length-padded, padded-in, padded-past, length-trimmed, trimmed-at, length-first}
+use Rattle.field.proofs.DigitLaws.{all-at, not-all, all-append}
+
+-- CLASSES: of blanks, of the first bytes
+all-blanks : (c : Class) → inClass c 32 ≡ true → (w : ℕ) → allOf c (blanks w) ≡ true
+unfolding allOf each
+all-blanks c e zero = refl
+all-blanks c e (suc w) = true-and (inClass c 32) (each (inClass c) (blanks w)) e (all-blanks c e w)
+
+all-take : (c : Class) (n : ℕ) (s : List ℕ) → allOf c s ≡ true → allOf c (take n s) ≡ true
+unfolding allOf each
+all-take c zero s e = refl
+all-take c (suc n) [] e = refl
+all-take c (suc n) (b ∷ s) e =
+    let q = and-true (inClass c b) (each (inClass c) s) e in
+    true-and (inClass c b) (each (inClass c) (take n s)) (q .0) (all-take c n s (q .1))
+
+pub blanks-are : (w : ℕ) → allOf Blank (blanks w) ≡ true
+blanks-are w = all-blanks Blank refl w
+
+pub blank-is : (s : List ℕ) → allOf Blank s ≡ true → s ≡ blanks (length s)
+blank-is s e =
+    ext-getD 0 s (blanks (length s)) (sym (length-replicate (length s) 32))
+    (λ k l. eqb-true (getD s k 0) 32 (all-at Blank s k e l) ∙ sym (getD-replicate (length s) k 32 0 l))
+
+pub not-blank-first : (s : List ℕ) → 0 < length s → eqb (getD s 0 0) 32 ≡ false → allOf Blank s ≡ false
+not-blank-first s l e = not-all Blank s 0 l e
+
+pub padded-first : (w : ℕ) (t : List ℕ) → 0 < w → 0 < length t → getD (padded w t) 0 0 ≡ getD t 0 0
+padded-first w t h l = padded-in w t 0 h l
+
+pub padded-empty : (w : ℕ) → padded w [] ≡ blanks w
+unfolding padded
+padded-empty w = take-all w (blanks w) (omega (arith, length-replicate {A = ℕ} w 32))
+
+pub padded-text : (w : ℕ) (t : List ℕ) → allOf Text t ≡ true → allOf Text (padded w t) ≡ true
+unfolding padded
+padded-text w t e = all-take Text w (t ++ blanks w) (all-append Text t (blanks w) e (all-blanks Text refl w))
+
+take-padded : (w : ℕ) (t : List ℕ) → length t ≤ w → take (length t) (padded w t) ≡ t
+unfolding padded
+take-padded w t h = take-take (length t) w (t ++ blanks w) h ∙ take-at t (blanks w) (length t) refl
+
+-- TRIMMING: of the first k bytes n are left
+record Ends (k : ℕ) (s : List ℕ) (n : ℕ) : Type 0 where
+  within : n ≤ k
+  past : (j : ℕ) → n ≤ j → j < k → eqb (getD s j 0) 32 ≡ true
+  last : 0 < n → eqb (getD s (n - 1) 0) 32 ≡ false
+
+ends : (k : ℕ) (s : List ℕ) → Ends k s (trimTo k s)
+unfolding trimTo
+ends zero s = record { within = omega arith; past = λ j l h. absurd (not-suc-le-zero h); last = λ h. absurd (not-suc-le-zero h) }
+ends (suc k) s = go (eqb (getD s k 0) 32) refl (ends k s)
+  where
+    go : (b : Bool) → eqb (getD s k 0) 32 ≡ b → Ends k s (trimTo k s) → Ends (suc k) s (pick b (trimTo k s) (suc k))
+    go true e r =
+        record {
+          within = omega (arith, r .within);
+          past = λ j l h. ⊎-elim (λ q. rw q e) (λ h'. r .past j l h') (eq-or-lt-of-le (le-of-suc-le-suc h));
+          last = r .last;
+        }
+    go false e r =
+        let q : suc k - 1 ≡ k = omega arith in
+        record { within = omega arith; past = λ j l h. absurd (omega arith); last = λ h. rw q e }
+
+not-longer : {k : ℕ} {s : List ℕ} {m n : ℕ} → Ends k s m → Ends k s n → n < m → ⊥
+not-longer {k} {s} {m} {n} p q h =
+    true-false (sym (q .past (m - 1) (omega arith) (omega (arith, p .within))) ∙ p .last (omega arith))
+
+ends-same : {k : ℕ} {s : List ℕ} {m n : ℕ} → Ends k s m → Ends k s n → m ≡ n
+ends-same {k} {s} {m} {n} p q = go (decLt n m) (decLt m n)
+  where
+    go : Dec (n < m) → Dec (m < n) → m ≡ n
+    go (yes h) d = absurd (not-longer p q h)
+    go (no h) (yes l) = absurd (not-longer q p l)
+    go (no h) (no l) = omega arith
+
+ended : (s : List ℕ) → Ends (length s) s (length (trimmed s))
+ended s = rw length-trimmed (ends (length s) s)
+
+pub trimmed-le : (s : List ℕ) → length (trimmed s) ≤ length s
+trimmed-le s = ended s .within
+
+pub trimmed-last : (s : List ℕ) → 0 < length (trimmed s) → eqb (getD (trimmed s) (length (trimmed s) - 1) 0) 32 ≡ false
+trimmed-last s h = rw (trimmed-at s (length (trimmed s) - 1) (omega arith)) (ended s .last h)
+
+pub trimmed-first : (s : List ℕ) → 0 < length (trimmed s) → getD (trimmed s) 0 0 ≡ getD s 0 0
+trimmed-first s h = trimmed-at s 0 h
+
+pub trimmed-text : (s : List ℕ) → allOf Text s ≡ true → allOf Text (trimmed s) ≡ true
+unfolding trimmed
+trimmed-text s e = all-take Text (trimTo (length s) s) s e
+
+pub padded-trimmed : (s : List ℕ) → padded (length s) (trimmed s) ≡ s
+padded-trimmed s = ext-getD 0 (padded (length s) t) s (length-padded (length s) t) (λ k h. at k (rw length-padded at h) (decLt k (length t)))
+  where
+    t : List ℕ
+    t = trimmed s
+
+    at : (k : ℕ) → k < length s → Dec (k < length t) → getD (padded (length s) t) k 0 ≡ getD s k 0
+    at k h (yes l) = padded-in (length s) t k h l ∙ trimmed-at s k l
+    at k h (no l) =
+        let m : length t ≤ k = omega arith in
+        padded-past (length s) t k h m ∙ sym (eqb-true (getD s k 0) 32 (ended s .past k m h))
+
+-- what is left is told by the bytes
+trimmed-ends : (s : List ℕ) (n : ℕ) → Ends (length s) s n → trimmed s ≡ take n s
+unfolding trimmed
+trimmed-ends s n e = ap (λ (m : ℕ). take m s) (ends-same (ends (length s) s) e)
+
+pub trimmed-blank : (s : List ℕ) → allOf Blank s ≡ true → trimmed s ≡ []
+trimmed-blank s e = trimmed-ends s 0 (record { within = omega arith; past = λ k l h. all-at Blank s k e h; last = λ h. absurd (not-suc-le-zero h) })
+
+pub trimmed-some : (s : List ℕ) → allOf Blank s ≡ false → 0 < length (trimmed s)
+trimmed-some s e = go (trimmed s) (padded-trimmed s)
+  where
+    go : (t : List ℕ) → padded (length s) t ≡ s → 0 < length t
+    go [] q = absurd (true-false (sym (blanks-are (length s)) ∙ ap (allOf Blank) (sym (padded-empty (length s)) ∙ q) ∙ e))
+    go (b ∷ t) q = omega arith
+
+-- a text that does not end in a blank, the empty one too, is what is left of it padded
+trimmed-whole : (w : ℕ) (t : List ℕ) → length t ≤ w → (0 < length t → eqb (getD t (length t - 1) 0) 32 ≡ false) → trimmed (padded w t) ≡ t
+trimmed-whole w t h e = trimmed-ends (padded w t) (length t) (rw length-padded now) ∙ take-padded w t h
+  where
+    now : Ends w (padded w t) (length t)
+    now = record {
+      within = h;
+      past = λ k l m. eq-eqb (getD (padded w t) k 0) 32 (padded-past w t k m l);
+      last = λ l. rw (padded-in w t (length t - 1) (omega arith) (omega arith)) (e l);
+    }
+
+pub trimmed-padded : (w : ℕ) (t : List ℕ) → length t ≤ w → 0 < length t → eqb (getD t (length t - 1) 0) 32 ≡ false → trimmed (padded w t) ≡ t
+trimmed-padded w t h l e = trimmed-whole w t h (λ _. e)
+
+pub first-bytes-le : (len : ℕ) (s : List ℕ) → len ≤ length s → firstBytes len s ≡ take len s
+unfolding firstBytes
+first-bytes-le len s h = take-append-le len s (replicate len 0) h
+
+pub first-bytes-padded : (t : List ℕ) (w : ℕ) → length t ≤ w → firstBytes (length t) (padded w t) ≡ t
+first-bytes-padded t w h = first-bytes-le (length t) (padded w t) (rw length-padded h) ∙ take-padded w t h
+
+-- A TEXT AS ONE NUMBER
+base256-same : (w : ℕ) (s u : List ℕ) → ((k : ℕ) → k < w → getD s k 0 < 256) → ((k : ℕ) → k < w → getD u k 0 < 256) → base256 w s ≡ base256 w u
+    → (k : ℕ) → k < w → getD s k 0 ≡ getD u k 0
+unfolding base256
+base256-same zero s u a b e k h = absurd (not-suc-le-zero h)
+base256-same (suc w) s u a b e k h =
+    let x : getD s w 0 < 256 = a w (omega arith) in
+    let y : getD u w 0 < 256 = b w (omega arith) in
+    let last : getD s w 0 ≡ getD u w 0 = omega arith in
+    let front : base256 w s ≡ base256 w u = omega arith in
+    ⊎-elim (λ q. rw q last) (λ l. base256-same w s u (λ j m. a j (omega arith)) (λ j m. b j (omega arith)) front k l) (eq-or-lt-of-le (le-of-suc-le-suc h))
+
+padded-byte : (w : ℕ) (t : List ℕ) → ((k : ℕ) → getD t k 0 < 256) → (k : ℕ) → k < w → getD (padded w t) k 0 < 256
+padded-byte w t b k h = go (decLt k (length t))
+  where
+    go : Dec (k < length t) → getD (padded w t) k 0 < 256
+    go (yes l) = rw (padded-in w t k h l) (b k)
+    go (no l) = omega (arith, padded-past w t k h (omega arith))
+
+pub word-same : (t u : List ℕ) → length t ≤ 8 → length u ≤ 8 → ((k : ℕ) → getD t k 0 < 256) → ((k : ℕ) → getD u k 0 < 256)
+    → (0 < length t → eqb (getD t (length t - 1) 0) 32 ≡ false) → (0 < length u → eqb (getD u (length u - 1) 0) 32 ≡ false)
+    → wordOf t ≡ wordOf u → t ≡ u
+unfolding wordOf
+word-same t u lt lu bt bu et eu e =
+    let same : padded 8 t ≡ padded 8 u =
+    ext-getD 0 (padded 8 t) (padded 8 u) (length-padded 8 t ∙ sym (length-padded 8 u))
+    (λ k h. base256-same 8 (padded 8 t) (padded 8 u) (padded-byte 8 t bt) (padded-byte 8 u bu) e k (rw length-padded at h)) in
+    sym (trimmed-whole 8 t lt et) ∙ ap trimmed same ∙ trimmed-whole 8 u lu eu

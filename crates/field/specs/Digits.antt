@@ -1,0 +1,19 @@
+-- A number as decimal digits of a fixed width, and back: once, over the width.
+-- Assumes nothing.
+use Prim.Native.Nat.{ℕ, zero, suc, _+_, _-_, _*_, _/_, _%_, min}
+use mathlib.Core.List.{List, [], _∷_, _++_}
+use lib.ListN.{length, getD}
+
+-- the last w digits of n, zero-filled on the left
+unfoldable pub digits : ℕ → ℕ → List ℕ
+digits zero n = []
+digits (suc w) n = digits w (n / 10) ++ ((48 + n % 10) ∷ [])
+
+-- the number that the first w bytes of s write; a byte below the digits counts 0
+unfoldable pub number : ℕ → List ℕ → ℕ
+number zero s = 0
+number (suc w) s = number w s * 10 + (getD s w 0 - 48)
+
+-- the number that a field writes. MIGRA's longest is ten digits, and no more of a field are read
+unfoldable pub numberOf : List ℕ → ℕ
+numberOf t = number (min 10 (length t)) t

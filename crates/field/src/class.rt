@@ -1,0 +1,53 @@
+// Classes of bytes, and reads that are defined past the end.
+ghost use mathlib.Core.Path.{_≡_};
+ghost use lib.ListN.{getD};
+ghost use Rattle.field.specs.Bytes.{inClass, allOf, lawfulText};
+
+pub enum Class {
+    Blank,
+    Digit,
+    Zero,
+    Text,
+}
+
+impl Class {
+    pub fn has(self, b: u8) -> bool
+        ensures { λ r. ⌜ r ≡ inClass self b ⌝ }
+    {
+        match self {
+            Class::Blank => b == 32,
+            Class::Digit => (48 <= b) & (b <= 57),
+            Class::Zero => b == 48,
+            Class::Text => ((32 <= b) & (b <= 126)) | (160 <= b),
+        }
+    }
+
+    // Whether every byte is of the class.
+    pub fn all(self, t: &[u8]) -> bool
+        ensures { λ r. ⌜ r ≡ allOf self (now (t .entry)) ⌝ }
+    {
+        let mut j = 0;
+        while j < t.len() {
+            if self.has(t[j]) {
+                j += 1;
+            } else {
+                return false;
+            }
+        }
+        true
+    }
+}
+
+// The byte at a place, and 0 past the end.
+pub fn byte(t: &[u8], i: usize) -> u8
+    ensures { λ r. ⌜ r ≡ getD (now (t .entry)) i 0 ⌝ }
+{
+    if i < t.len() { t[i] } else { 0 }
+}
+
+// The A rule.
+pub fn lawful_text(t: &[u8]) -> bool
+    ensures { λ r. ⌜ r ≡ lawfulText (now (t .entry)) ⌝ }
+{
+    Class::Text.all(t) & (Class::Blank.all(t) | (byte(t, 0) != 32))
+}

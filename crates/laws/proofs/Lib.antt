@@ -1,0 +1,3 @@
+pub mod FindLaws
+pub mod NestLaws
+pub mod RowLaws

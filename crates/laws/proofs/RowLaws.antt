@@ -1,0 +1,88 @@
+-- The laws of rows and of tests of every element (specs/Row.antt).
+-- Assumes nothing.
+use Prim.Native.Nat.{ℕ, zero, suc, _+_, _<_, _≤_}
+use mathlib.Core.Bool.{Bool, true, false, _&&_}
+use mathlib.Core.List.{List, [], _∷_, _++_}
+use mathlib.Core.Path.{_≡_, refl, sym, ap, ap₂, _∙_}
+use mathlib.Core.Logic.{⊎-elim}
+use native.Mathlib.Nat.{le-of-suc-le-suc, not-suc-le-zero, eq-or-lt-of-le, le-refl}
+use native.Mathlib.Numerals.{add-one}
+use native.Mathlib.Omega.{arith}
+use lib.ListN.{length, getD, take, drop, set, length-append, drop-of-length-le, List·getD-append}
+use lib.Seq.{drop-cons, take-suc-set, getD-at, take-all}
+use Rattle.laws.specs.Row.{pick, row, each}
+use Rattle.laws.proofs.FindLaws.{true-false}
+
+pub and-true : (a b : Bool) → (a && b) ≡ true → (a ≡ true) × (b ≡ true)
+and-true true b e = (refl, e)
+and-true false b e = absurd (true-false (sym e))
+
+pub true-and : (a b : Bool) → a ≡ true → b ≡ true → (a && b) ≡ true
+true-and true b p q = q
+true-and false b p q = p
+
+-- one equation of both
+pub and-false : (a b : Bool) → a ≡ false → (a && b) ≡ false
+and-false true b e = absurd (true-false e)
+and-false false b e = refl
+
+-- ROWS
+module _ {A : Type 0} (g : ℕ → A) where
+  pub length-row : (n : ℕ) → length (row g n) ≡ n
+  unfolding row
+  length-row zero = refl
+  length-row (suc n) = simp (length-append, length-row n) (omega arith)
+
+  pub row-at : (n : ℕ) {k : ℕ} (d : A) → k < n → getD (row g n) k d ≡ g k
+  unfolding row
+  row-at zero d l = absurd (not-suc-le-zero l)
+  row-at (suc n) {k} d l =
+      ⊎-elim
+      (λ e. rw e (getD-at (row g n) (g n) [] d n (length-row n)))
+      (λ l'. List·getD-append (row g n) (g n ∷ []) d k (rw length-row l') ∙ row-at n d l')
+      (eq-or-lt-of-le (le-of-suc-le-suc l))
+
+  -- LOOPS that fill an array: the invariant is `take i xs ≡ row g i`
+  pub row-start : (xs : List A) → take 0 xs ≡ row g 0
+  unfolding row
+  row-start xs = refl
+
+  pub row-more : (i : ℕ) (xs : List A) (x : A) → i < length xs → take i xs ≡ row g i → x ≡ g i → take (i + 1) (set xs i x) ≡ row g (i + 1)
+  unfolding row
+  row-more i xs x l e h = rw (add-one, take-suc-set xs i x l) (ap₂ (λ (a : List A) (b : A). a ++ (b ∷ [])) e h)
+
+  pub row-end : {i n : ℕ} (xs : List A) → length xs ≡ n → i ≤ n → n ≤ i → take i xs ≡ row g i → xs ≡ row g n
+  row-end {i} {n} xs w l u e =
+      let q : i ≡ n = omega arith in
+      sym (take-all i xs (omega arith)) ∙ e ∙ ap (row g) q
+
+-- EVERY ELEMENT
+module _ {A : Type 0} (p : A → Bool) where
+  -- LOOPS: the invariant is `each p (drop i xs) ≡ each p xs`. A turn that goes on,
+  pub each-more : (xs : List A) (i : ℕ) (d : A) → i < length xs → p (getD xs i d) ≡ true → each p (drop (i + 1) xs) ≡ each p (drop i xs)
+  unfolding each
+  each-more xs i d h e = rw (add-one, drop-cons xs i d h, e)
+
+  -- one that stops,
+  pub each-stop : (xs : List A) (i : ℕ) (d : A) → i < length xs → p (getD xs i d) ≡ false → each p (drop i xs) ≡ false
+  unfolding each
+  each-stop xs i d h e = rw (drop-cons xs i d h, e)
+
+  -- and the end.
+  pub each-end : (xs : List A) (i : ℕ) → length xs ≤ i → each p (drop i xs) ≡ true
+  unfolding each
+  each-end xs i h = rw (drop-of-length-le xs h)
+
+  -- what a test of every element says of one
+  pub each-at : (xs : List A) (k : ℕ) (d : A) → each p xs ≡ true → k < length xs → p (getD xs k d) ≡ true
+  unfolding each
+  each-at [] k d e l = absurd (not-suc-le-zero l)
+  each-at (x ∷ xs) zero d e l = and-true (p x) (each p xs) e .0
+  each-at (x ∷ xs) (suc k) d e l = each-at xs k d (and-true (p x) (each p xs) e .1) (le-of-suc-le-suc l)
+
+  pub each-append : (xs ys : List A) → each p xs ≡ true → each p ys ≡ true → each p (xs ++ ys) ≡ true
+  unfolding each
+  each-append [] ys e h = h
+  each-append (x ∷ xs) ys e h =
+      let q = and-true (p x) (each p xs) e in
+      true-and (p x) (each p (xs ++ ys)) (q .0) (each-append xs ys (q .1) h)

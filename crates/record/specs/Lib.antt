@@ -1,0 +1,6 @@
+pub mod Table
+pub mod Cut
+pub mod Rules
+pub mod Breaks
+pub mod Claims
+pub mod Says

@@ -1,0 +1,78 @@
+-- What the records of a file say: for each record and field missing, a number, a text or a coordinate. The rules from 30 on are
+-- read of these alone, and never of bytes.
+-- Assumes nothing.
+use Prim.Native.Nat.{ℕ, _-_}
+use mathlib.Core.Bool.{Bool, true, false}
+use mathlib.Core.List.{List, []}
+use lib.IntN.{ℤ, pos}
+use lib.ListN.{getD}
+use lib.Dec.{eqb}
+use Rattle.laws.specs.Row.{pick}
+use Rattle.field.specs.declared.class.Class.the-variants.{Blank}
+use Rattle.field.specs.Bytes.{allOf}
+use Rattle.field.specs.Digits.{numberOf}
+use Rattle.field.specs.Signs.{signed}
+use Rattle.field.specs.Texts.{trimmed, wordOf}
+use Rattle.record.specs.declared.kind.Kind.{Kind}
+use Rattle.record.specs.declared.kind.Form.{Form}
+use Rattle.record.specs.declared.kind.Form.the-variants.{Words, Code, Tipo, Sense, Sign, Number, Size}
+use Rattle.record.specs.Table.{formAt}
+use Rattle.record.specs.Cut.{countOf, recordOf, textOf}
+
+-- a coordinate, one signed whole number, is said at the number's field, and nothing at its sign's
+pub data Said : Type 0 where
+  missing : Said
+  number : ℕ → Said
+  text : List ℕ → Said
+  coordinate : ℤ → Said
+
+abbrev pub textSaid : List ℕ → Said
+textSaid t = pick (allOf Blank t) missing (text (trimmed t))
+
+-- what a field of the form says by its bytes; b is the field before it
+unfoldable pub saidAs : Form → List ℕ → List ℕ → Said
+saidAs Words t b = textSaid t
+saidAs Code t b = textSaid t
+saidAs Tipo t b = textSaid t
+saidAs Sense t b = textSaid t
+saidAs Sign t b = missing
+saidAs Number t b = pick (allOf Blank t) missing (number (numberOf t))
+saidAs Size t b = pick (allOf Blank t) missing (coordinate (signed (eqb (getD b 0 0) 45) (numberOf t)))
+
+-- what field f of a record's bytes says
+unfoldable pub saidIn : List ℕ → Kind → ℕ → Said
+saidIn s k f = saidAs (formAt k f) (textOf s k f) (textOf s k (f - 1))
+
+-- what a file says: how many records, and what field f of record i, counted from 0, says; past the last record nothing
+pub record Table : Type 0 where
+  pub count : ℕ
+  pub says : ℕ → ℕ → Said
+
+abbrev pub tableOf : List ℕ → Kind → Table
+tableOf s k = record { count = countOf s k; says = λ i f. saidIn (recordOf s k i) k f }
+
+abbrev pub isMissing : Said → Bool
+isMissing missing = true
+isMissing (number n) = false
+isMissing (text t) = false
+isMissing (coordinate z) = false
+
+-- the number said, 0 where none is
+abbrev pub numberIn : Said → ℕ
+numberIn missing = 0
+numberIn (number n) = n
+numberIn (text t) = 0
+numberIn (coordinate z) = 0
+
+abbrev pub coordinateIn : Said → ℤ
+coordinateIn missing = pos 0
+coordinateIn (number n) = pos 0
+coordinateIn (text t) = pos 0
+coordinateIn (coordinate z) = z
+
+-- the text said, as one number of its first eight bytes; no text is the empty one
+abbrev pub wordIn : Said → ℕ
+wordIn missing = wordOf []
+wordIn (number n) = wordOf []
+wordIn (text t) = wordOf t
+wordIn (coordinate z) = wordOf []

@@ -1,0 +1,47 @@
+// Records are cut from a file by length, and fields from a record by place. Every cut is defined on every input.
+use crate::kind::Kind;
+ghost use mathlib.Core.Path.{_≡_};
+ghost use mathlib.Core.List.{List};
+ghost use Prim.Native.Nat.{ℕ, _<_, _≤_};
+ghost use lib.ListN.{length, take, drop};
+ghost use Rattle.record.specs.Cut.{countOf, recordOf, textOf};
+
+// n bytes from a on: fewer where the slice ends before.
+pub fn part(t: &[u8], a: usize, n: usize) -> &[u8]
+    ensures { λ r. ⌜ now r ≡ take n (drop a (now (t .entry))) ⌝ }
+{
+    if t.len() < a {
+        return &t[..0];
+    }
+    if t.len() - a < n {
+        return &t[a..];
+    }
+    let e = a + n;
+    &t[a..e]
+}
+
+// The number of whole records.
+pub fn records(s: &[u8], k: Kind) -> usize
+    ensures { λ r. ⌜ r ≡ countOf (now (s .entry)) k ⌝ }
+{
+    s.len() / k.length()
+}
+
+// The bytes of a whole record, counted from 0; none past the last.
+pub fn record_bytes(s: &[u8], k: Kind, i: usize) -> &[u8]
+    ensures { λ r. ⌜ now r ≡ recordOf (now (s .entry)) k i ⌝ }
+{
+    let n = k.length();
+    if i < records(s, k) {
+        part(s, i * n, n)
+    } else {
+        &s[..0]
+    }
+}
+
+// The bytes of a field of a record.
+pub fn field(rec: &[u8], k: Kind, f: usize) -> &[u8]
+    ensures { λ r. ⌜ now r ≡ textOf (now (rec .entry)) k f ⌝ }
+{
+    part(rec, k.offset(f), k.width(f))
+}

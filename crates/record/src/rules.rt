@@ -1,0 +1,158 @@
+// The rules of a record's fields, reasons 20 to 25: a test for each, true where the rule is broken.
+use crate::cut::field;
+use crate::kind::Form;
+use crate::kind::Kind;
+use field::class::Class;
+use field::class::byte;
+use field::class::lawful_text;
+use field::words::not_given;
+use field::words::trimmed_len;
+ghost use mathlib.Core.Path.{_≡_};
+ghost use mathlib.Core.Bool.{_&&_, _||_, not};
+ghost use Prim.Native.Nat.{ℕ, _+_, _-_, _<_, _≤_};
+ghost use lib.ListN.{length, getD};
+ghost use Rattle.field.specs.Bytes.{allOf};
+ghost use Rattle.record.specs.Table.{formAt, mustAt, fieldsOf};
+ghost use Rattle.record.specs.Cut.{textOf};
+ghost use Rattle.record.specs.Rules.{breaks20, breaks21, notNumber, notText, missingIn, partnersBlank, isSignByte, outside, twenties};
+
+// 20: the record doesn't end in 0D 0A.
+fn bad_end(rec: &[u8], k: Kind, f: usize) -> bool
+    ensures { λ r. ⌜ r ≡ breaks20 (now (rec .entry)) k f ⌝ }
+{
+    let n = k.length();
+    (f == 0) & !((byte(rec, n - 2) == 13) & (byte(rec, n - 1) == 10))
+}
+
+// 21: no bar after a field.
+fn no_bar(rec: &[u8], k: Kind, f: usize) -> bool
+    ensures { λ r. ⌜ r ≡ breaks21 (now (rec .entry)) k f ⌝ }
+{
+    let e = k.offset(f) + k.width(f);
+    (0 < f) & (f < k.fields()) & (byte(rec, e) != 124)
+}
+
+// 22: an N field is neither all digits nor all blanks.
+fn not_number(form: Form, t: &[u8]) -> bool
+    ensures { λ r. ⌜ r ≡ notNumber form (now (t .entry)) ⌝ }
+{
+    form.is_n() & !Class::Blank.all(t) & !Class::Digit.all(t)
+}
+
+// 23: an A field breaks the A rule.
+fn not_text(form: Form, t: &[u8]) -> bool
+    ensures { λ r. ⌜ r ≡ notText form (now (t .entry)) ⌝ }
+{
+    if form.is_n() { false } else { !lawful_text(t) }
+}
+
+// Every byte is blank; for CODIGO also NA and ND.
+fn missing(form: Form, t: &[u8]) -> bool
+    ensures { λ r. ⌜ r ≡ missingIn form (now (t .entry)) ⌝ }
+{
+    if form.is_code() {
+        Class::Blank.all(t) | not_given(t, trimmed_len(t))
+    } else {
+        Class::Blank.all(t)
+    }
+}
+
+fn blank_field(rec: &[u8], k: Kind, f: usize) -> bool
+    ensures { λ r. ⌜ r ≡ allOf Class.Blank (textOf (now (rec .entry)) k f) ⌝ }
+{
+    Class::Blank.all(field(rec, k, f))
+}
+
+// a - b, and 0 where b is the greater.
+fn minus(a: usize, b: usize) -> usize
+    ensures { λ r. ⌜ r ≡ a - b ⌝ }
+{
+    if b <= a { a - b } else { 0 }
+}
+
+// Whether a field and its partners are all blank.
+fn partners_blank(rec: &[u8], k: Kind, f: usize) -> bool
+    requires { ⌜ f < 256 ⌝ }
+    ensures { λ r. ⌜ r ≡ partnersBlank (now (rec .entry)) k f ⌝ }
+{
+    let from = minus(f, k.before(f));
+    let n = k.before(f) + k.after(f) + 1;
+    let mut j = 0;
+    while j < n {
+        if blank_field(rec, k, from + j) {
+            j += 1;
+        } else {
+            return false;
+        }
+    }
+    true
+}
+
+// 24: gone where it may not be, or while a partner isn't blank.
+fn lacking(rec: &[u8], k: Kind, f: usize, gone: bool) -> bool
+    requires { ⌜ f < 256 ⌝ }
+    ensures { λ r. ⌜ r ≡ (gone && (mustAt k f || not (partnersBlank (now (rec .entry)) k f))) ⌝ }
+{
+    if gone {
+        k.must(f) | !partners_blank(rec, k, f)
+    } else {
+        false
+    }
+}
+
+fn is_sign_byte(b: u8) -> bool
+    ensures { λ r. ⌜ r ≡ isSignByte b ⌝ }
+{
+    (b == 43) | (b == 45)
+}
+
+impl Form {
+    // Whether a text is outside the form's domain; next is the text of the next field.
+    fn outside(self, t: &[u8], next: &[u8]) -> bool
+        ensures { λ r. ⌜ r ≡ outside self (now (t .entry)) (now (next .entry)) ⌝ }
+    {
+        let b = byte(t, 0);
+        match self {
+            Form::Words => false,
+            Form::Code => false,
+            Form::Tipo => !((b == 80) | (b == 88) | (b == 76) | (b == 84)),
+            Form::Sense => !is_sign_byte(b),
+            Form::Sign => !is_sign_byte(b) | ((b == 45) & Class::Zero.all(next)),
+            Form::Number => false,
+            Form::Size => false,
+        }
+    }
+}
+
+// 25: outside its domain, of a field that is sound: not damaged, not missing.
+fn unfit(rec: &[u8], k: Kind, f: usize, sound: bool) -> bool
+    requires { ⌜ f < 256 ⌝ }
+    ensures { λ r. ⌜ r ≡ (sound && outside (formAt k f) (textOf (now (rec .entry)) k f) (textOf (now (rec .entry)) k (f + 1))) ⌝ }
+{
+    if sound {
+        let form = k.form(f);
+        form.outside(field(rec, k, f), field(rec, k, f + 1))
+    } else {
+        false
+    }
+}
+
+// The tests of reasons 20 to 25 at a place of a record.
+pub(crate) fn tests(rec: &[u8], k: Kind, f: usize) -> [bool; 6]
+    requires { ⌜ f < 256 ⌝ }
+    ensures { λ r. ⌜ r ≡ twenties (now (rec .entry)) k f ⌝ }
+{
+    let form = k.form(f);
+    let t = field(rec, k, f);
+    let no_number = not_number(form, t);
+    let no_text = not_text(form, t);
+    let gone = missing(form, t);
+    [
+        bad_end(rec, k, f),
+        no_bar(rec, k, f),
+        no_number,
+        no_text,
+        lacking(rec, k, f, gone),
+        unfit(rec, k, f, !no_number & !no_text & !gone),
+    ]
+}
