@@ -9,7 +9,7 @@ use native.Mathlib.Nat.{not-suc-le-zero, le-of-suc-le-suc, eq-or-lt-of-le}
 use native.Mathlib.Decide.{decLt}
 use native.Mathlib.Omega.{arith}
 use lib.Dec.{eqb}
-use lib.ListN.{length, getD, take, replicate, length-append, length-replicate, getD-replicate, List·getD-append}
+use lib.ListN.{length, getD, take, replicate, length-append, length-replicate, getD-replicate, List·getD-append, List·getD-eq-default}
 use lib.Seq.{take-all, take-at, take-take, take-append-le, length-take-le, getD-take, getD-append-add, ext-getD}
 use borrow.Author.Tests.{eqb-true, eq-eqb}
 use Rattle.laws.specs.Row.{pick, each}
@@ -19,7 +19,7 @@ use Rattle.field.specs.declared.class.Class.{Class}
 use Rattle.field.specs.declared.class.Class.the-variants.{Blank, Text}
 use Rattle.field.specs.Bytes.{inClass, allOf, blanks}
 use Rattle.field.specs.Texts.{padded, trimTo, trimmed, firstBytes, base256, wordOf}
-use Rattle.field.proofs.TextLoops.{length-padded, padded-in, padded-past, length-trimmed, trimmed-at, length-first}
+use Rattle.field.proofs.TextLoops.{length-padded, padded-in, padded-past, length-trimmed, trimmed-at, length-first, base-more}
 use Rattle.field.proofs.DigitLaws.{all-at, not-all, all-append}
 
 -- CLASSES: of blanks, of the first bytes
@@ -188,3 +188,22 @@ word-same t u lt lu bt bu et eu e =
     ext-getD 0 (padded 8 t) (padded 8 u) (length-padded 8 t ∙ sym (length-padded 8 u))
     (λ k h. base256-same 8 (padded 8 t) (padded 8 u) (padded-byte 8 t bt) (padded-byte 8 u bu) e k (rw length-padded at h)) in
     sym (trimmed-whole 8 t lt et) ∙ ap trimmed same ∙ trimmed-whole 8 u lu eu
+
+-- what is left of two fields of up to eight bytes is the same where their words are
+trimmed-byte : (s : List ℕ) → ((k : ℕ) → getD s k 0 < 256) → (k : ℕ) → getD (trimmed s) k 0 < 256
+trimmed-byte s b k = go (decLt k (length (trimmed s)))
+  where
+    go : Dec (k < length (trimmed s)) → getD (trimmed s) k 0 < 256
+    go (yes l) = rw (trimmed-at s k l) (b k)
+    go (no l) = omega (arith, List·getD-eq-default (trimmed s) 0 {n = k} (omega arith))
+
+pub trimmed-same : (s u : List ℕ) → length s ≤ 8 → length u ≤ 8 → ((k : ℕ) → getD s k 0 < 256) → ((k : ℕ) → getD u k 0 < 256)
+    → wordOf (trimmed s) ≡ wordOf (trimmed u) → trimmed s ≡ trimmed u
+trimmed-same s u ls lu bs bu e =
+    word-same (trimmed s) (trimmed u) (omega (arith, trimmed-le s)) (omega (arith, trimmed-le u)) (trimmed-byte s bs) (trimmed-byte u bu)
+    (trimmed-last s) (trimmed-last u) e
+
+-- the word of a text of up to seven bytes ends in a blank, so that it is not 0
+pub word-some : (t : List ℕ) → length t ≤ 7 → 0 < wordOf t
+unfolding wordOf
+word-some t h = omega (arith, base-more 7 (padded 8 t), padded-past 8 t 7 (omega arith) h)

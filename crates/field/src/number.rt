@@ -69,7 +69,7 @@ fn digits_read(n: usize) -> usize
 // The number that the part's bytes write.
 pub fn get_number(part: &[u8]) -> u64
     ensures value { λ r. ⌜ r ≡ numberOf (now (part .entry)) ⌝ }
-    ensures small { λ r. ⌜ r < 2 ^ 62 ⌝ }
+    ensures small { λ r. ⌜ r < 2 ^ 38 ⌝ }
 {
     let end = digits_read(part.len());
     let mut n: u64 = 0;

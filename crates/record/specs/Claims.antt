@@ -35,12 +35,16 @@ testsAt t s k i f =
 unfoldable pub broken : List ℕ → Kind → ℕ → ℕ → ℕ → Bool
 broken s k n i f = getD (testsAt (n / 10) s k i f) (n % 10) false
 
--- what a finding says of the reasons of a ten: nothing is broken; or the break shown is, and none earlier by record, field and reason
-unfoldable pub Means : ℕ → List ℕ → Kind → Finding → Type 0
-Means t s k Fine = (n i f : ℕ) → n / 10 ≡ t → broken s k n i f ≡ false
-Means t s k (Broken b) =
+-- what a finding on file k says of the reasons of a ten, where broken tells of a reason's number, a record and a field: nothing is
+-- broken; or the break shown is, and none earlier by record, field and reason
+unfoldable pub MeansBy : (ℕ → ℕ → ℕ → Bool) → ℕ → Kind → Finding → Type 0
+MeansBy broken t k Fine = (n i f : ℕ) → n / 10 ≡ t → broken n i f ≡ false
+MeansBy broken t k (Broken b) =
     (numberOf (b .reason) / 10 ≡ t)
     × (b .file ≡ fileOf k)
-    × (broken s k (numberOf (b .reason)) (b .«record») (b .field) ≡ true)
-    × ((n i f : ℕ) → n / 10 ≡ t → broken s k n i f ≡ true
+    × (broken (numberOf (b .reason)) (b .«record») (b .field) ≡ true)
+    × ((n i f : ℕ) → n / 10 ≡ t → broken n i f ≡ true
     → before (i ∷ f ∷ n ∷ []) (b .«record» ∷ b .field ∷ numberOf (b .reason) ∷ []) ≡ true → ⊥)
+
+abbrev pub Means : ℕ → List ℕ → Kind → Finding → Type 0
+Means t s k v = MeansBy (broken s k) t k v

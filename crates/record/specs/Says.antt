@@ -1,7 +1,7 @@
 -- What the records of a file say: for each record and field missing, a number, a text or a coordinate. The rules from 30 on are
 -- read of these alone, and never of bytes.
 -- Assumes nothing.
-use Prim.Native.Nat.{ℕ, _-_}
+use Prim.Native.Nat.{ℕ, _+_, _-_, min}
 use mathlib.Core.Bool.{Bool, true, false}
 use mathlib.Core.List.{List, []}
 use lib.IntN.{ℤ, pos}
@@ -43,13 +43,18 @@ saidAs Size t b = pick (allOf Blank t) missing (coordinate (signed (eqb (getD b 
 unfoldable pub saidIn : List ℕ → Kind → ℕ → Said
 saidIn s k f = saidAs (formAt k f) (textOf s k f) (textOf s k (f - 1))
 
--- what a file says: how many records, and what field f of record i, counted from 0, says; past the last record nothing
+-- a file has at most so many records
+abbrev pub limit : ℕ
+limit = 16384
+
+-- what a file says: how many records, and what field f of record i, counted from 0, says; past the last record nothing. A file
+-- longer than the limit is reason 10, and no rule is read of its table
 pub record Table : Type 0 where
   pub count : ℕ
   pub says : ℕ → ℕ → Said
 
 abbrev pub tableOf : List ℕ → Kind → Table
-tableOf s k = record { count = countOf s k; says = λ i f. saidIn (recordOf s k i) k f }
+tableOf s k = record { count = min limit (countOf s k); says = λ i f. saidIn (recordOf s k i) k f }
 
 abbrev pub isMissing : Said → Bool
 isMissing missing = true
@@ -70,9 +75,16 @@ coordinateIn (number n) = pos 0
 coordinateIn (text t) = pos 0
 coordinateIn (coordinate z) = z
 
--- the text said, as one number of its first eight bytes; no text is the empty one
-abbrev pub wordIn : Said → ℕ
-wordIn missing = wordOf []
-wordIn (number n) = wordOf []
-wordIn (text t) = wordOf t
-wordIn (coordinate z) = wordOf []
+-- what is said as one number, by which keys and references are compared: 0 where nothing is, so that no id is missing's
+abbrev pub keyIn : Said → ℕ
+keyIn missing = 0
+keyIn (number n) = n + 1
+keyIn (text t) = wordOf t
+keyIn (coordinate z) = 0
+
+-- the first byte of the text said
+abbrev pub letterIn : Said → ℕ
+letterIn missing = 0
+letterIn (number n) = 0
+letterIn (text t) = getD t 0 0
+letterIn (coordinate z) = 0

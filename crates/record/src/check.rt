@@ -10,23 +10,23 @@ ghost use mathlib.Core.Path.{_≡_};
 ghost use mathlib.Core.Bool.{Bool, true, false};
 ghost use mathlib.Core.List.{List};
 ghost use Prim.Native.Nat.{ℕ, _<_, _≤_};
-ghost use lib.ListN.{getD};
+ghost use lib.ListN.{length, getD};
 ghost use Rattle.laws.specs.Nest.{run};
 ghost use Rattle.record.specs.Rules.{twenties};
 ghost use Rattle.record.specs.Breaks.{breakOf, findingOf, atPlace, twentyReasons, recordFinding, fieldsFinding, shapeFinding, indexOf};
 
-// The index of the first test that holds, and 6 where none does.
-fn first_true(t: [bool; 6]) -> usize
-    ensures { λ r. ⌜ r ≡ indexOf t 6 ⌝ }
+// The index of the first test that holds, and their number where none does.
+pub fn first_true(t: &[bool]) -> usize
+    ensures { λ r. ⌜ r ≡ indexOf (now (t .entry)) (length (now (t .entry))) ⌝ }
 {
     let mut j = 0;
-    while j < 6 {
+    while j < t.len() {
         if t[j] {
             return j;
         }
         j += 1;
     }
-    6
+    t.len()
 }
 
 fn twenty_reason(j: usize) -> Reason
@@ -43,7 +43,7 @@ fn twenty_reason(j: usize) -> Reason
     }
 }
 
-fn break_of(reason: Reason, k: Kind, i: usize, f: usize) -> Break
+pub fn break_of(reason: Reason, k: Kind, i: usize, f: usize) -> Break
     ensures { λ r. ⌜ r ≡ breakOf reason k i f ⌝ }
 {
     Break {
@@ -59,7 +59,8 @@ fn check_place(rec: &[u8], k: Kind, i: usize, f: usize) -> Finding
     requires { ⌜ f < 256 ⌝ }
     ensures { λ r. ⌜ r ≡ findingOf (run (atPlace (twenties (now (rec .entry)) k f) twentyReasons k i f)) ⌝ }
 {
-    let j = first_true(tests(rec, k, f));
+    let t = tests(rec, k, f);
+    let j = first_true(&t);
     if j < 6 {
         Finding::Broken(break_of(twenty_reason(j), k, i, f))
     } else {

@@ -1,19 +1,20 @@
 // What the records of a file say, for the layers above: the count, and of a record (counted from 0) and a field whether it is
-// missing, the number, the coordinate (at the number's field), the text as one number. Past the last record and field nothing is said.
+// missing, the number, the coordinate (at the number's field), the text's first byte, and what is said as one number. Past the last record and field nothing is said.
 use crate::cut::field;
-use crate::cut::part;
 use crate::cut::record_bytes;
+use crate::cut::records;
 use crate::kind::Form;
 use crate::kind::Kind;
 use field::class::Class;
+use field::class::byte;
 use field::number::get_coordinate;
 use field::number::get_number;
 use field::words::word;
 ghost use mathlib.Core.Path.{_≡_};
-ghost use Prim.Native.Nat.{ℕ, _<_, _^_, _-_};
+ghost use Prim.Native.Nat.{ℕ, _+_, _<_, _≤_, _^_, _-_};
 ghost use Rattle.record.specs.Table.{formAt};
 ghost use Rattle.record.specs.Cut.{textOf};
-ghost use Rattle.record.specs.Says.{saidIn, saidAs, tableOf, isMissing, numberIn, coordinateIn, wordIn};
+ghost use Rattle.record.specs.Says.{saidIn, saidAs, tableOf, isMissing, numberIn, coordinateIn, keyIn, letterIn};
 
 fn is_missing_in(form: Form, t: &[u8], b: &[u8]) -> bool
     ensures { λ r. ⌜ r ≡ isMissing (saidAs form (now (t .entry)) (now (b .entry))) ⌝ }
@@ -26,7 +27,7 @@ fn is_missing_in(form: Form, t: &[u8], b: &[u8]) -> bool
 
 fn number_in(form: Form, t: &[u8], b: &[u8]) -> u64
     ensures { λ r. ⌜ r ≡ numberIn (saidAs form (now (t .entry)) (now (b .entry))) ⌝ }
-    ensures small { λ r. ⌜ r < 2 ^ 62 ⌝ }
+    ensures small { λ r. ⌜ r < 2 ^ 38 ⌝ }
 {
     match form {
         Form::Number => get_number(t),
@@ -43,14 +44,31 @@ fn coordinate_in(form: Form, t: &[u8], b: &[u8]) -> i64
     }
 }
 
-fn word_in(form: Form, t: &[u8], b: &[u8]) -> u64
-    ensures { λ r. ⌜ r ≡ wordIn (saidAs form (now (t .entry)) (now (b .entry))) ⌝ }
+fn key_in(form: Form, t: &[u8], b: &[u8]) -> u64
+    ensures { λ r. ⌜ r ≡ keyIn (saidAs form (now (t .entry)) (now (b .entry))) ⌝ }
 {
+    if is_missing_in(form, t, b) {
+        return 0;
+    }
     match form {
-        Form::Sign => word(part(t, 0, 0)),
-        Form::Number => word(part(t, 0, 0)),
-        Form::Size => word(part(t, 0, 0)),
+        Form::Sign => 0,
+        Form::Number => get_number(t) + 1,
+        Form::Size => 0,
         _ => word(t),
+    }
+}
+
+fn letter_in(form: Form, t: &[u8], b: &[u8]) -> u8
+    ensures { λ r. ⌜ r ≡ letterIn (saidAs form (now (t .entry)) (now (b .entry))) ⌝ }
+{
+    if is_missing_in(form, t, b) {
+        return 0;
+    }
+    match form {
+        Form::Sign => 0,
+        Form::Number => 0,
+        Form::Size => 0,
+        _ => byte(t, 0),
     }
 }
 
@@ -74,7 +92,7 @@ pub fn is_missing(s: &[u8], k: Kind, i: usize, f: usize) -> bool
 
 pub fn number(s: &[u8], k: Kind, i: usize, f: usize) -> u64
     ensures { λ r. ⌜ r ≡ numberIn (tableOf (now (s .entry)) k .says i f) ⌝ }
-    ensures small { λ r. ⌜ r < 2 ^ 62 ⌝ }
+    ensures small { λ r. ⌜ r < 2 ^ 38 ⌝ }
 {
     let rec = record_bytes(s, k, i);
     number_in(k.form(f), field(rec, k, f), field_before(rec, k, f))
@@ -87,9 +105,27 @@ pub fn coordinate(s: &[u8], k: Kind, i: usize, f: usize) -> i64
     coordinate_in(k.form(f), field(rec, k, f), field_before(rec, k, f))
 }
 
-pub fn text_word(s: &[u8], k: Kind, i: usize, f: usize) -> u64
-    ensures { λ r. ⌜ r ≡ wordIn (tableOf (now (s .entry)) k .says i f) ⌝ }
+// What is said as one number, by which keys and references are compared.
+pub fn key(s: &[u8], k: Kind, i: usize, f: usize) -> u64
+    ensures { λ r. ⌜ r ≡ keyIn (tableOf (now (s .entry)) k .says i f) ⌝ }
 {
     let rec = record_bytes(s, k, i);
-    word_in(k.form(f), field(rec, k, f), field_before(rec, k, f))
+    key_in(k.form(f), field(rec, k, f), field_before(rec, k, f))
+}
+
+// The first byte of the text.
+pub fn letter(s: &[u8], k: Kind, i: usize, f: usize) -> u8
+    ensures { λ r. ⌜ r ≡ letterIn (tableOf (now (s .entry)) k .says i f) ⌝ }
+{
+    let rec = record_bytes(s, k, i);
+    letter_in(k.form(f), field(rec, k, f), field_before(rec, k, f))
+}
+
+// How many records the file's table has: its whole records, up to the limit.
+pub fn rows(s: &[u8], k: Kind) -> usize
+    ensures { λ r. ⌜ r ≡ tableOf (now (s .entry)) k .count ⌝ }
+    ensures small { λ r. ⌜ r ≤ 16384 ⌝ }
+{
+    let n = records(s, k);
+    if 16384 < n { 16384 } else { n }
 }

@@ -108,7 +108,7 @@ fn is_sign_byte(b: u8) -> bool
 
 impl Form {
     // Whether a text is outside the form's domain; next is the text of the next field.
-    fn outside(self, t: &[u8], next: &[u8]) -> bool
+    pub fn outside(self, t: &[u8], next: &[u8]) -> bool
         ensures { λ r. ⌜ r ≡ outside self (now (t .entry)) (now (next .entry)) ⌝ }
     {
         let b = byte(t, 0);

@@ -1,0 +1,50 @@
+-- The laws of cutting: parts of a list, the records of a file (specs/Cut.antt).
+-- Assumes nothing.
+use Prim.Native.Nat.{ℕ, _+_, _-_, _*_, _≤_, _<_}
+use mathlib.Core.List.{List, []}
+use mathlib.Core.Path.{_≡_, refl, sym, _∙_}
+use native.Mathlib.Nat.{le-div-iff-mul-le, suc-mul}
+use native.Mathlib.Omega.{arith}
+use lib.ListN.{length, take, drop, length-take, length-drop, drop-of-length-le}
+use lib.Seq.{take-all, take-nil}
+use borrow.Author.Tests.{lt-ltb, le-ltb}
+use Rattle.record.specs.declared.kind.Kind.{Kind}
+use Rattle.record.specs.Table.{lengthOf}
+use Rattle.record.specs.Cut.{countOf, recordOf}
+use Rattle.record.proofs.TableLaws.{sane}
+
+-- PARTS: past the end there is nothing,
+pub part-past : (n a : ℕ) (s : List ℕ) → length s < a → [] ≡ take n (drop a s)
+part-past n a s h = let l : length s ≤ a = omega arith in rw (drop-of-length-le s l, take-nil)
+
+-- and what is left is a part that is too long
+pub part-left : (n a : ℕ) (s : List ℕ) → length s - a < n → take (length s - a) (drop a s) ≡ take n (drop a s)
+part-left n a s h =
+    let l = length-drop a s in
+    take-all (length s - a) (drop a s) (omega arith) ∙ sym (take-all n (drop a s) (omega arith))
+
+-- RECORDS: past the last there are none
+pub record-past : (s : List ℕ) (k : Kind) (i : ℕ) → countOf s k ≤ i → recordOf s k i ≡ []
+unfolding recordOf
+record-past s k i h = rw (le-ltb i (countOf s k) h)
+
+module _ (s : List ℕ) (k : Kind) (i : ℕ) (h : i < countOf s k) where
+  -- a whole record stands within the file,
+  pub record-within : i * lengthOf k + lengthOf k ≤ length s
+  unfolding countOf
+  record-within = rw (← suc-mul) (le-div-iff-mul-le {k = lengthOf k} (omega (arith, sane k)) .0 h)
+
+  -- also as the code has its length,
+  pub record-room : {n : ℕ} → n ≡ lengthOf k → i * n + n ≤ length s
+  record-room e = rw e record-within
+
+  -- is a part of it
+  pub record-part : {n : ℕ} → n ≡ lengthOf k → take n (drop (i * n) s) ≡ recordOf s k i
+  unfolding recordOf
+  record-part e = rw (lt-ltb i (countOf s k) h, e)
+
+  -- and has the length of its kind
+  pub record-long : length (recordOf s k i) ≡ lengthOf k
+  record-long =
+      let w = record-within in
+      rw (← record-part {n = lengthOf k} refl, length-take, length-drop) (omega arith)

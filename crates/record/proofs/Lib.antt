@@ -1,0 +1,5 @@
+pub mod TableLaws
+pub mod CutLaws
+pub mod SaysLaws
+pub mod FindingLaws
+pub mod Meaning

@@ -1,0 +1,273 @@
+-- What the code reads of a field, by its form: what it says (specs/Says.antt), that it is not given, that its partners are blank (specs/Rules.antt).
+-- Assumes nothing.
+use Prim.Native.Nat.{ℕ, _+_, _-_, _≤_, _<_}
+use mathlib.Core.Bool.{Bool, true, false}
+use mathlib.Core.List.{List, [], _∷_}
+use mathlib.Core.Path.{_≡_, refl, sym, ap, _∙_}
+use native.Mathlib.Omega.{arith}
+use denote.Enum.Declared.{tagOf}
+use types.Run.{OneOf, miss}
+use lib.Dec.{eqb}
+use lib.IntN.{ℤ, pos}
+use lib.ListN.{length, getD, drop}
+use Rattle.laws.specs.Row.{pick, row, each}
+use Rattle.laws.proofs.FindLaws.{true-false}
+use Rattle.laws.proofs.RowLaws.{length-row, row-at, each-more, each-stop, each-end}
+use Rattle.field.specs.declared.class.Class.the-variants.{Blank}
+use Rattle.field.specs.Bytes.{allOf}
+use Rattle.field.specs.Digits.{numberOf}
+use Rattle.field.specs.Signs.{signed}
+use Rattle.field.specs.Texts.{trimmed, firstBytes, notGiven, wordOf}
+use Rattle.field.proofs.DigitLaws.{blank-number}
+use Rattle.field.proofs.TextLaws.{trimmed-le, trimmed-first, trimmed-some, trimmed-same, first-bytes-le, word-some}
+use Rattle.field.proofs.TextLoops.{length-trimmed}
+use Rattle.record.specs.declared.kind.Kind.{Kind}
+use Rattle.record.specs.declared.kind.Form.{Form}
+use Rattle.record.specs.declared.kind.Form.the-variants.{Words, Code, Tipo, Sense, Sign, Number, Size}
+use Rattle.record.specs.Table.{beforeAt, afterAt, isN}
+use Rattle.record.specs.Cut.{textOf}
+use Rattle.record.specs.Rules.{partnersBlank}
+use Rattle.record.specs.Says.{Said, missing, number, text, coordinate, saidAs, isMissing, numberIn, coordinateIn, keyIn, letterIn, textSaid}
+use Rattle.record.proofs.kind.Form.{the-type}
+
+-- FORMS of an arm of a `match`, by their places in the enum
+abbrev pub Among : List ℕ → Form → Type 0
+Among ks form = OneOf ks (tagOf the-type form)
+
+abbrev pub texts : List ℕ
+texts = 0 ∷ 1 ∷ 2 ∷ 3 ∷ []
+
+abbrev pub noSign : List ℕ
+noSign = 0 ∷ 1 ∷ 2 ∷ 3 ∷ 5 ∷ 6 ∷ []
+
+abbrev pub noNumber : List ℕ
+noNumber = 0 ∷ 1 ∷ 2 ∷ 3 ∷ 4 ∷ 6 ∷ []
+
+abbrev pub noSize : List ℕ
+noSize = 0 ∷ 1 ∷ 2 ∷ 3 ∷ 4 ∷ 5 ∷ []
+
+-- a field that is blank says nothing
+picked : {A : Type 0} (g : Said → A) (a : A) (b : Bool) (x : Said) → (b ≡ true → a ≡ g missing) → (b ≡ false → a ≡ g x) → a ≡ g (pick b missing x)
+picked g a true x p q = p refl
+picked g a false x p q = q refl
+
+-- and a field that says something is not blank
+there : (b : Bool) (x s : Said) → s ≡ pick b missing x → isMissing s ≡ false → (b ≡ false) × (s ≡ x)
+there true x s e m = absurd (true-false (ap isMissing (sym e) ∙ m))
+there false x s e m = (refl, e)
+
+said-gone : {A : Type 0} (g : Said → A) (x : Said) → isMissing x ≡ true → g missing ≡ g x
+said-gone g missing e = refl
+said-gone g (number n) e = absurd (true-false (sym e))
+said-gone g (text t) e = absurd (true-false (sym e))
+said-gone g (coordinate z) e = absurd (true-false (sym e))
+
+signed-zero : (b : Bool) → signed b 0 ≡ pos 0
+signed-zero true = refl
+signed-zero false = refl
+
+module _ (t b : List ℕ) where
+  said-missing : (x : Said) → isMissing x ≡ false → allOf Blank t ≡ isMissing (pick (allOf Blank t) missing x)
+  said-missing x h = picked isMissing (allOf Blank t) (allOf Blank t) x (λ e. e) (λ e. e ∙ sym h)
+
+  said-none : {A : Type 0} (g : Said → A) (x : Said) → g missing ≡ g x → g missing ≡ g (pick (allOf Blank t) missing x)
+  said-none g x h = picked g (g missing) (allOf Blank t) x (λ e. refl) (λ e. h)
+
+  -- MISSING
+  pub missing-sign : (form : Form) → form ≡ Sign → true ≡ isMissing (saidAs form t b)
+  unfolding saidAs
+  missing-sign form e = rw e
+
+  pub missing-other : (form : Form) → Among noSign form → allOf Blank t ≡ isMissing (saidAs form t b)
+  unfolding saidAs
+  missing-other Words h = said-missing _ refl
+  missing-other Code h = said-missing _ refl
+  missing-other Tipo h = said-missing _ refl
+  missing-other Sense h = said-missing _ refl
+  missing-other Sign h = absurd (miss noSign 4 tt h)
+  missing-other Number h = said-missing _ refl
+  missing-other Size h = said-missing _ refl
+
+  -- NUMBERS
+  pub number-said : (form : Form) → form ≡ Number → numberOf t ≡ numberIn (saidAs form t b)
+  unfolding saidAs
+  number-said form e = rw e (picked numberIn (numberOf t) (allOf Blank t) (number (numberOf t)) (blank-number t) (λ _. refl))
+
+  pub no-number : (form : Form) → Among noNumber form → 0 ≡ numberIn (saidAs form t b)
+  unfolding saidAs
+  no-number Words h = said-none numberIn _ refl
+  no-number Code h = said-none numberIn _ refl
+  no-number Tipo h = said-none numberIn _ refl
+  no-number Sense h = said-none numberIn _ refl
+  no-number Sign h = refl
+  no-number Number h = absurd (miss noNumber 5 tt h)
+  no-number Size h = said-none numberIn _ refl
+
+  -- COORDINATES
+  pub coordinate-said : (form : Form) → form ≡ Size → signed (eqb (getD b 0 0) 45) (numberOf t) ≡ coordinateIn (saidAs form t b)
+  unfolding saidAs
+  coordinate-said form e =
+      let minus = eqb (getD b 0 0) 45 in
+      let z = signed minus (numberOf t) in
+      rw e (picked coordinateIn z (allOf Blank t) (coordinate z) (λ h. ap (signed minus) (blank-number t h) ∙ signed-zero minus) (λ _. refl))
+
+  pub no-coordinate : (form : Form) → Among noSize form → pos 0 ≡ coordinateIn (saidAs form t b)
+  unfolding saidAs
+  no-coordinate Words h = said-none coordinateIn _ refl
+  no-coordinate Code h = said-none coordinateIn _ refl
+  no-coordinate Tipo h = said-none coordinateIn _ refl
+  no-coordinate Sense h = said-none coordinateIn _ refl
+  no-coordinate Sign h = refl
+  no-coordinate Number h = said-none coordinateIn _ refl
+  no-coordinate Size h = absurd (miss noSize 6 tt h)
+
+  -- TEXTS
+  as-text : (form : Form) → Among texts form → saidAs form t b ≡ textSaid t
+  unfolding saidAs
+  as-text Words h = refl
+  as-text Code h = refl
+  as-text Tipo h = refl
+  as-text Sense h = refl
+  as-text Sign h = absurd (miss texts 4 tt h)
+  as-text Number h = absurd (miss texts 5 tt h)
+  as-text Size h = absurd (miss texts 6 tt h)
+
+  text-there : (form : Form) → Among texts form → isMissing (saidAs form t b) ≡ false → (allOf Blank t ≡ false) × (saidAs form t b ≡ text (trimmed t))
+  text-there form h m = there (allOf Blank t) (text (trimmed t)) (saidAs form t b) (as-text form h) m
+
+  -- a reader g has of these fields what it has where nothing is said
+  pub none-missing : {A : Type 0} (g : Said → A) (form : Form) → isMissing (saidAs form t b) ≡ true → g missing ≡ g (saidAs form t b)
+  none-missing g form e = said-gone g (saidAs form t b) e
+
+  pub none-sign : {A : Type 0} (g : Said → A) (form : Form) → form ≡ Sign → g missing ≡ g (saidAs form t b)
+  unfolding saidAs
+  none-sign g form e = rw e
+
+  pub none-number : {A : Type 0} (g : Said → A) (form : Form) → form ≡ Number → ((n : ℕ) → g missing ≡ g (number n)) → g missing ≡ g (saidAs form t b)
+  unfolding saidAs
+  none-number g form e h = rw e (said-none g (number (numberOf t)) (h (numberOf t)))
+
+  pub none-size : {A : Type 0} (g : Said → A) (form : Form) → form ≡ Size → ((z : ℤ) → g missing ≡ g (coordinate z)) → g missing ≡ g (saidAs form t b)
+  unfolding saidAs
+  none-size g form e h = rw e (said-none g _ (h _))
+
+  -- KEYS AND LETTERS of a field that is not missing
+  pub key-number : (form : Form) → form ≡ Number → isMissing (saidAs form t b) ≡ false → numberOf t + 1 ≡ keyIn (saidAs form t b)
+  unfolding saidAs
+  key-number form e m = ap keyIn (sym (there (allOf Blank t) (number (numberOf t)) (saidAs form t b) (rw e) m .1))
+
+  pub key-text : (form : Form) → Among texts form → isMissing (saidAs form t b) ≡ false → wordOf (trimmed t) ≡ keyIn (saidAs form t b)
+  key-text form h m = ap keyIn (sym (text-there form h m .1))
+
+  pub letter-text : (form : Form) → Among texts form → isMissing (saidAs form t b) ≡ false → getD t 0 0 ≡ letterIn (saidAs form t b)
+  letter-text form h m =
+      let w = text-there form h m in
+      sym (trimmed-first t (trimmed-some t (w .0))) ∙ ap letterIn (sym (w .1))
+
+-- KEYS: a number, or a text of up to seven bytes, so that its word ends in a blank
+abbrev pub Keyed : Form → List ℕ → Type 0
+Keyed Words t = length t ≤ 7
+Keyed Code t = length t ≤ 7
+Keyed Tipo t = length t ≤ 7
+Keyed Sense t = length t ≤ 7
+Keyed Sign t = ⊥
+Keyed Number t = Unit {0}
+Keyed Size t = ⊥
+
+-- what such a field says where it is not blank, by whether it is a number
+abbrev keySaid : Bool → List ℕ → Said
+keySaid true t = number (numberOf t)
+keySaid false t = text (trimmed t)
+
+as-key : (form : Form) (t b : List ℕ) → Keyed form t → (saidAs form t b ≡ pick (allOf Blank t) missing (keySaid (isN form) t)) × (isN form ≡ false → length t ≤ 7)
+unfolding saidAs
+as-key Words t b h = (refl, λ _. h)
+as-key Code t b h = (refl, λ _. h)
+as-key Tipo t b h = (refl, λ _. h)
+as-key Sense t b h = (refl, λ _. h)
+as-key Sign t b h = absurd h
+as-key Number t b h = (refl, λ e. absurd (true-false e))
+as-key Size t b h = absurd h
+
+key-some : (n : Bool) (t : List ℕ) → (n ≡ false → length t ≤ 7) → 0 < keyIn (keySaid n t)
+key-some true t h = omega arith
+key-some false t h = word-some (trimmed t) (omega (arith, trimmed-le t, h refl))
+
+-- no key is 0 but that of a field that is missing,
+pub key-missing : (form : Form) (t b : List ℕ) → Keyed form t → keyIn (saidAs form t b) ≡ 0 → isMissing (saidAs form t b) ≡ true
+key-missing form t b h =
+    let w = as-key form t b h in
+    rw (w .0) (go (allOf Blank t) (keySaid (isN form) t) (key-some (isN form) t (w .1)))
+  where
+    go : (blank : Bool) (x : Said) → 0 < keyIn x → keyIn (pick blank missing x) ≡ 0 → isMissing (pick blank missing x) ≡ true
+    go true x l e = refl
+    go false x l e = absurd (omega arith)
+
+-- and two fields with the same key say the same
+pub key-same : (p q : Form) (t b u c : List ℕ) → isN p ≡ isN q → Keyed p t → Keyed q u → ((k : ℕ) → getD t k 0 < 256) → ((k : ℕ) → getD u k 0 < 256)
+    → keyIn (saidAs p t b) ≡ keyIn (saidAs q u c) → saidAs p t b ≡ saidAs q u c
+key-same p q t b u c n hp hq bt bu =
+    let v = as-key p t b hp in
+    let w = as-key q u c hq in
+    rw (v .0, w .0, n)
+    (go (allOf Blank t) (allOf Blank u) (key-some (isN q) t (rw n at (v .1))) (key-some (isN q) u (w .1)) (same (isN q) (rw n at (v .1)) (w .1)))
+  where
+    go : (blank blank' : Bool) {x y : Said} → 0 < keyIn x → 0 < keyIn y → (keyIn x ≡ keyIn y → x ≡ y)
+        → keyIn (pick blank missing x) ≡ keyIn (pick blank' missing y) → pick blank missing x ≡ pick blank' missing y
+    go true true lx ly h e = refl
+    go true false lx ly h e = absurd (omega arith)
+    go false true lx ly h e = absurd (omega arith)
+    go false false lx ly h e = h e
+
+    same : (n : Bool) → (n ≡ false → length t ≤ 7) → (n ≡ false → length u ≤ 7) → keyIn (keySaid n t) ≡ keyIn (keySaid n u) → keySaid n t ≡ keySaid n u
+    same true lt lu e = ap number (omega arith)
+    same false lt lu e = ap text (trimmed-same t u (omega (arith, lt refl)) (omega (arith, lu refl)) bt bu e)
+
+-- RULES: NA and ND are told of the bytes that are left
+pub not-given-trimmed : (t : List ℕ) {len : ℕ} → len ≡ length (trimmed t) → notGiven (firstBytes len t) ≡ notGiven (trimmed t)
+unfolding trimmed
+not-given-trimmed t e = rw (e, first-bytes-le _ t (trimmed-le t), length-trimmed)
+
+-- the texts of a field and its partners
+abbrev pub partner : List ℕ → Kind → ℕ → ℕ → List ℕ
+partner s k f j = textOf s k (f - beforeAt k f + j)
+
+abbrev pub partners : List ℕ → Kind → ℕ → List (List ℕ)
+partners s k f = row (partner s k f) (beforeAt k f + afterAt k f + 1)
+
+-- the loop's invariant: of n partners from a place on, those from j on tell whether all are blank
+pub record Left (s : List ℕ) (k : Kind) (f from n j : ℕ) : Type 0 where
+  pub within : j ≤ n
+  pub start : from ≡ f - beforeAt k f
+  pub count : n ≡ beforeAt k f + afterAt k f + 1
+  pub told : each (allOf Blank) (drop j (partners s k f)) ≡ partnersBlank s k f
+
+pub left-all : (s : List ℕ) (k : Kind) (f : ℕ) {from b c a : ℕ} → from ≡ f - b → b ≡ beforeAt k f → c ≡ beforeAt k f → a ≡ afterAt k f
+    → Left s k f from (c + a + 1) 0
+unfolding partnersBlank
+left-all s k f e p q r = record { within = omega arith; start = omega arith; count = omega arith; told = refl }
+
+module _ {s : List ℕ} {k : Kind} {f from n j : ℕ} (i : Left s k f from n j) where
+  long : length (partners s k f) ≡ n
+  long = length-row (partner s k f) (beforeAt k f + afterAt k f + 1) ∙ sym (i .count)
+
+  -- the code's r is the test of partner j
+  tested : (r : Bool) → r ≡ allOf Blank (textOf s k (from + j)) → j < n → allOf Blank (getD (partners s k f) j []) ≡ r
+  tested r q h =
+      let l : j < beforeAt k f + afterAt k f + 1 = omega (arith, i .count) in
+      ap (allOf Blank) (row-at (partner s k f) (beforeAt k f + afterAt k f + 1) [] l ∙ ap (λ (m : ℕ). textOf s k (m + j)) (sym (i .start))) ∙ sym q
+
+  pub left-more : {r : Bool} → r ≡ allOf Blank (textOf s k (from + j)) → j < n → r ≡ true → Left s k f from n (j + 1)
+  left-more {r} q h y =
+      record {
+        within = omega arith;
+        start = i .start;
+        count = i .count;
+        told = each-more (allOf Blank) (partners s k f) j [] (omega (arith, long)) (tested r q h ∙ y) ∙ i .told;
+      }
+
+  pub left-stop : {r : Bool} → r ≡ allOf Blank (textOf s k (from + j)) → j < n → r ≡ false → false ≡ partnersBlank s k f
+  left-stop {r} q h y = sym (each-stop (allOf Blank) (partners s k f) j [] (omega (arith, long)) (tested r q h ∙ y)) ∙ i .told
+
+  pub left-none : n ≤ j → true ≡ partnersBlank s k f
+  left-none h = sym (each-end (allOf Blank) (partners s k f) j (omega (arith, long))) ∙ i .told

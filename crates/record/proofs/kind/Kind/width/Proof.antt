@@ -1,0 +1,32 @@
+-- `Kind::width` meets its contract: its table is that of `widthAt`.
+-- Assumes nothing.
+use borrow.Author.Needs.{needs}
+use mathlib.Core.Path.{refl}
+use Rattle.laws.specs.Row.{row, each}
+use Rattle.record.specs.Table.{Col, colAt, widthAt}
+use Rattle.record.proofs.TableLaws.{flat, read, read-fits, past}
+use Rattle.record.proofs.kind.Kind.width.Statement.{statement}
+use Rattle.record.proofs.kind.Kind.width.Tie as tie
+
+cell-requires : tie.Need-cell-requires
+cell-requires c κs = search needs
+
+array-read-result : tie.Need-array-read-result
+array-read-result c = search needs
+
+cast-result : tie.Need-cast-result
+unfolding flat row each colAt widthAt
+cast-result c = read-fits widthAt refl (c .cell .result)
+
+returns : tie.Need-returns
+unfolding flat row each colAt widthAt
+returns c =
+    let a = c .before .before .args in
+    read widthAt refl (a .self) (a .f) (c .cell .ensures .0) (c .before .if1 .taken)
+
+returns-2 : tie.Need-returns-2
+unfolding widthAt
+returns-2 c = (past (λ (x : Col). x .width) (c .before .args .self) (c .before .args .f) (c .if1 .left), search needs)
+
+pub width-spec : {M : Type 1} → statement M
+width-spec = tie.close (tie.spec cell-requires array-read-result cast-result returns returns-2)
