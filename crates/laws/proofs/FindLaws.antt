@@ -4,7 +4,7 @@ use Prim.Native.Nat.{ℕ, zero, suc, _+_, _<_, _≤_}
 use mathlib.Core.Bool.{Bool, true, false}
 use mathlib.Core.Option.{Option, none, some}
 use mathlib.Core.Path.{_≡_, refl, sym, ap, ap₂, subst, _∙_}
-use mathlib.Core.Logic.{_⊎_, inl, inr, ⊎-elim}
+use mathlib.Core.Logic.{⊎-elim}
 use native.Mathlib.Numerals.{add-one}
 use native.Mathlib.Nat.{le-of-suc-le-suc, not-suc-le-zero, eq-or-lt-of-le, le-refl}
 use native.Mathlib.Omega.{arith}
@@ -122,6 +122,9 @@ pub hit-none : {B : Type 0} (t : Bool) (b : B) → hit t b ≡ none → t ≡ fa
 hit-none true b e = absurd (some-none e)
 hit-none false b e = refl
 
+pub hit-false : {B : Type 0} (t : Bool) (b : B) → t ≡ false → hit t b ≡ none
+hit-false t b e = rw e
+
 isSome-true : {B : Type 0} (o : Option B) → isSome o ≡ true → (b : B) × (o ≡ some b)
 isSome-true none e = absurd (true-false (sym e))
 isSome-true (some b) e = (b, refl)
@@ -188,12 +191,15 @@ first-map {B} p g (suc n) = ap (λ (o : Option B). then o (hit (p n) (g n))) (fi
     go none false = refl
     go (some k) t = refl
 
--- a search reads its test only below n
+-- a search reads no answer from n on
+pub first-same : {B : Type 0} (f g : ℕ → Option B) (n : ℕ) → ((j : ℕ) → j < n → f j ≡ g j) → firstOf f n ≡ firstOf g n
+unfolding firstOf then
+first-same f g zero same = refl
+first-same f g (suc n) same = ap₂ then (first-same f g n (λ j l. same j (omega arith))) (same n (omega arith))
+
 pub index-same : (p q : ℕ → Bool) (n : ℕ) → ((k : ℕ) → k < n → p k ≡ q k) → firstIndex p n ≡ firstIndex q n
-unfolding firstIndex firstOf then
-index-same p q zero same = refl
-index-same p q (suc n) same =
-    ap₂ then (index-same p q n (λ k l. same k (omega arith))) (ap (λ (t : Bool). hit t n) (same n (omega arith)))
+unfolding firstIndex
+index-same p q n same = first-same _ _ n (λ k l. ap (λ (t : Bool). hit t k) (same k l))
 
 pub any-same : (p q : ℕ → Bool) (n : ℕ) → ((k : ℕ) → k < n → p k ≡ q k) → any p n ≡ any q n
 unfolding any

@@ -1,18 +1,20 @@
--- The laws of rows and of tests of every element (specs/Row.antt).
+-- The laws of tests, of rows and of tests of every element (specs/Row.antt).
 -- Assumes nothing.
 use Prim.Native.Nat.{ℕ, zero, suc, _+_, _<_, _≤_}
-use mathlib.Core.Bool.{Bool, true, false, _&&_}
+use mathlib.Core.Bool.{Bool, true, false, _&&_, _||_, and-comm, and-assoc}
 use mathlib.Core.List.{List, [], _∷_, _++_}
 use mathlib.Core.Path.{_≡_, refl, sym, ap, ap₂, _∙_}
 use mathlib.Core.Logic.{⊎-elim}
-use native.Mathlib.Nat.{le-of-suc-le-suc, not-suc-le-zero, eq-or-lt-of-le, le-refl}
+use native.Mathlib.Nat.{le-of-suc-le-suc, not-suc-le-zero, eq-or-lt-of-le}
 use native.Mathlib.Numerals.{add-one}
+use native.Mathlib.Decide.{decLt}
 use native.Mathlib.Omega.{arith}
-use lib.ListN.{length, getD, take, drop, set, length-append, drop-of-length-le, List·getD-append}
+use lib.ListN.{length, getD, take, drop, set, length-append, drop-of-length-le, List·getD-append, List·getD-eq-default}
 use lib.Seq.{drop-cons, take-suc-set, getD-at, take-all}
 use Rattle.laws.specs.Row.{pick, row, each}
 use Rattle.laws.proofs.FindLaws.{true-false}
 
+-- TESTS
 pub and-true : (a b : Bool) → (a && b) ≡ true → (a ≡ true) × (b ≡ true)
 and-true true b e = (refl, e)
 and-true false b e = absurd (true-false (sym e))
@@ -25,6 +27,51 @@ true-and false b p q = p
 pub and-false : (a b : Bool) → a ≡ false → (a && b) ≡ false
 and-false true b e = absurd (true-false e)
 and-false false b e = refl
+
+pub then-false : (a b : Bool) → (a && b) ≡ false → a ≡ true → b ≡ false
+then-false true b e h = e
+then-false false b e h = absurd (true-false (sym h))
+
+pub and-last : (a b : Bool) → (a ≡ true → b ≡ false) → (a && b) ≡ false
+and-last true b h = h refl
+and-last false b h = refl
+
+-- a test that holds less often
+pub less : (a b c : Bool) → (b ≡ true → a ≡ true) → (a && c) ≡ false → (b && c) ≡ false
+less a true c p e = rw (p refl) at e
+less a false c p e = refl
+
+pub neither : (a b : Bool) → (a || b) ≡ false → (a ≡ false) × (b ≡ false)
+neither true b e = absurd (true-false e)
+neither false b e = (refl, e)
+
+pub same-test : (a b : Bool) → (a ≡ true → b ≡ true) → (b ≡ true → a ≡ true) → a ≡ b
+same-test true b p q = sym (p refl)
+same-test false true p q = q refl
+same-test false false p q = refl
+
+-- what holds of the one and of the other
+pub picked : {A : Type 0} (P : A → Type 0) (b : Bool) (x y : A) → (b ≡ true → P x) → (b ≡ false → P y) → P (pick b x y)
+picked P true x y p q = p refl
+picked P false x y p q = q refl
+
+-- LISTS OF TESTS that are all false
+pub data Falses : List Bool → Type 0 where
+  end : Falses []
+  more : {b : Bool} {ts : List Bool} → b ≡ false → Falses ts → Falses (b ∷ ts)
+
+pub falses : {ts : List Bool} → Falses ts → (u : ℕ) → getD ts u false ≡ false
+falses end u = refl
+falses (more e h) zero = e
+falses (more e h) (suc u) = falses h u
+
+-- false at every index, where it is below the length
+pub false-at : (ts : List Bool) → ((u : ℕ) → u < length ts → getD ts u false ≡ false) → (u : ℕ) → getD ts u false ≡ false
+false-at ts h u = go (decLt u (length ts))
+  where
+    go : Dec (u < length ts) → getD ts u false ≡ false
+    go (yes l) = h u l
+    go (no l) = List·getD-eq-default ts false {n = u} (omega arith)
 
 -- ROWS
 module _ {A : Type 0} (g : ℕ → A) where
@@ -56,6 +103,13 @@ module _ {A : Type 0} (g : ℕ → A) where
       let q : i ≡ n = omega arith in
       sym (take-all i xs (omega arith)) ∙ e ∙ ap (row g) q
 
+-- a row reads no place past its end
+pub row-same : {A : Type 0} (g h : ℕ → A) (n : ℕ) → ((j : ℕ) → j < n → g j ≡ h j) → row g n ≡ row h n
+unfolding row
+row-same g h zero same = refl
+row-same {A} g h (suc n) same =
+    ap₂ (λ (xs : List A) (x : A). xs ++ (x ∷ [])) (row-same g h n (λ j l. same j (omega arith))) (same n (omega arith))
+
 -- EVERY ELEMENT
 module _ {A : Type 0} (p : A → Bool) where
   -- LOOPS: the invariant is `each p (drop i xs) ≡ each p xs`. A turn that goes on,
@@ -86,3 +140,17 @@ module _ {A : Type 0} (p : A → Bool) where
   each-append (x ∷ xs) ys e h =
       let q = and-true (p x) (each p xs) e in
       true-and (p x) (each p (xs ++ ys)) (q .0) (each-append xs ys (q .1) h)
+
+  pub each-last : (xs : List A) (x : A) → each p (xs ++ (x ∷ [])) ≡ (each p xs && p x)
+  unfolding each
+  each-last [] x = and-comm (p x) true
+  each-last (y ∷ xs) x = ap (λ (b : Bool). p y && b) (each-last xs x) ∙ sym (and-assoc (p y) (each p xs) (p x))
+
+-- of two rows
+pub each-same :
+    {A B : Type 0} (p : A → Bool) (q : B → Bool) (g : ℕ → A) (h : ℕ → B) (n : ℕ) → ((j : ℕ) → j < n → p (g j) ≡ q (h j))
+    → each p (row g n) ≡ each q (row h n)
+unfolding row each
+each-same p q g h zero same = refl
+each-same p q g h (suc n) same =
+    each-last p (row g n) (g n) ∙ ap₂ _&&_ (each-same p q g h n (λ j l. same j (omega arith))) (same n (omega arith)) ∙ sym (each-last q (row h n) (h n))

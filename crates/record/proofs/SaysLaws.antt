@@ -1,14 +1,15 @@
 -- What the code reads of a field, by its form: what it says (specs/Says.antt), that it is not given, that its partners are blank (specs/Rules.antt).
 -- Assumes nothing.
-use Prim.Native.Nat.{ℕ, _+_, _-_, _≤_, _<_}
-use mathlib.Core.Bool.{Bool, true, false}
+use Prim.Native.Nat.{ℕ, zero, suc, _+_, _-_, _≤_, _<_}
+use mathlib.Core.Bool.{Bool, true, false, not, _&&_}
 use mathlib.Core.List.{List, [], _∷_}
 use mathlib.Core.Path.{_≡_, refl, sym, ap, _∙_}
 use native.Mathlib.Omega.{arith}
+use borrow.Author.Tests.{ne-eqb}
 use denote.Enum.Declared.{tagOf}
 use types.Run.{OneOf, miss}
 use lib.Dec.{eqb}
-use lib.IntN.{ℤ, pos}
+use lib.IntN.{ℤ, pos, negsuc}
 use lib.ListN.{length, getD, drop}
 use Rattle.laws.specs.Row.{pick, row, each}
 use Rattle.laws.proofs.FindLaws.{true-false}
@@ -27,7 +28,7 @@ use Rattle.record.specs.declared.kind.Form.the-variants.{Words, Code, Ti
 use Rattle.record.specs.Table.{beforeAt, afterAt, isN}
 use Rattle.record.specs.Cut.{textOf}
 use Rattle.record.specs.Rules.{partnersBlank}
-use Rattle.record.specs.Says.{Said, missing, number, text, coordinate, saidAs, isMissing, numberIn, coordinateIn, keyIn, letterIn, textSaid}
+use Rattle.record.specs.Says.{Said, missing, number, text, coordinate, saidAs, isMissing, numberIn, coordinateIn, keyIn, letterIn, placeOf, placeIn, textSaid}
 use Rattle.record.proofs.kind.Form.{the-type}
 
 -- FORMS of an arm of a `match`, by their places in the enum
@@ -65,6 +66,12 @@ said-gone g (coordinate z) e = absurd (true-false (sym e))
 signed-zero : (b : Bool) → signed b 0 ≡ pos 0
 signed-zero true = refl
 signed-zero false = refl
+
+-- a coordinate's place, from its sign and its size
+place-code : (minus : Bool) (n : ℕ) → pick (minus && not (eqb n 0)) (n + n) (n + n + 1) ≡ placeOf (signed minus n)
+place-code false n = refl
+place-code true zero = refl
+place-code true (suc n) = rw (ne-eqb (suc n) 0 (λ e. omega arith)) (omega arith)
 
 module _ (t b : List ℕ) where
   said-missing : (x : Said) → isMissing x ≡ false → allOf Blank t ≡ isMissing (pick (allOf Blank t) missing x)
@@ -111,15 +118,33 @@ module _ (t b : List ℕ) where
       let z = signed minus (numberOf t) in
       rw e (picked coordinateIn z (allOf Blank t) (coordinate z) (λ h. ap (signed minus) (blank-number t h) ∙ signed-zero minus) (λ _. refl))
 
-  pub no-coordinate : (form : Form) → Among noSize form → pos 0 ≡ coordinateIn (saidAs form t b)
+  -- a reader g has of a field of another form what it has where nothing is said
+  no-size : {A : Type 0} (g : Said → A) → ((n : ℕ) → g missing ≡ g (number n)) → ((l : List ℕ) → g missing ≡ g (text l)) → (form : Form) → Among noSize form
+      → g missing ≡ g (saidAs form t b)
   unfolding saidAs
-  no-coordinate Words h = said-none coordinateIn _ refl
-  no-coordinate Code h = said-none coordinateIn _ refl
-  no-coordinate Tipo h = said-none coordinateIn _ refl
-  no-coordinate Sense h = said-none coordinateIn _ refl
-  no-coordinate Sign h = refl
-  no-coordinate Number h = said-none coordinateIn _ refl
-  no-coordinate Size h = absurd (miss noSize 6 tt h)
+  no-size g n l Words h = said-none g _ (l _)
+  no-size g n l Code h = said-none g _ (l _)
+  no-size g n l Tipo h = said-none g _ (l _)
+  no-size g n l Sense h = said-none g _ (l _)
+  no-size g n l Sign h = refl
+  no-size g n l Number h = said-none g _ (n _)
+  no-size g n l Size h = absurd (miss noSize 6 tt h)
+
+  pub no-coordinate : (form : Form) → Among noSize form → pos 0 ≡ coordinateIn (saidAs form t b)
+  no-coordinate = no-size coordinateIn (λ _. refl) (λ _. refl)
+
+  pub no-place : (form : Form) → Among noSize form → 0 ≡ placeIn (saidAs form t b)
+  no-place = no-size placeIn (λ _. refl) (λ _. refl)
+
+  -- PLACES of a coordinate that is not missing; the code's test is of a minus before a number that is not zero
+  pub place-said : (form : Form) → form ≡ Size → isMissing (saidAs form t b) ≡ false → placeOf (signed (eqb (getD b 0 0) 45) (numberOf t)) ≡ placeIn (saidAs form t b)
+  unfolding saidAs
+  place-said form e m =
+      ap placeIn (sym (there (allOf Blank t) (coordinate (signed (eqb (getD b 0 0) 45) (numberOf t))) (saidAs form t b) (rw e) m .1))
+
+  pub place-read : {x n : ℕ} {test : Bool} (form : Form) → form ≡ Size → isMissing (saidAs form t b) ≡ false → x ≡ getD b 0 0 → n ≡ numberOf t
+      → (eqb x 45 && not (eqb n 0)) ≡ test → pick test (n + n) (n + n + 1) ≡ placeIn (saidAs form t b)
+  place-read {x} {n} form e m p q y = rw (← y) (place-code (eqb x 45) n ∙ rw (p, q) (place-said form e m))
 
   -- TEXTS
   as-text : (form : Form) → Among texts form → saidAs form t b ≡ textSaid t
@@ -163,6 +188,64 @@ module _ (t b : List ℕ) where
   letter-text form h m =
       let w = text-there form h m in
       sym (trimmed-first t (trimmed-some t (w .0))) ∙ ap letterIn (sym (w .1))
+
+-- a text is no number
+pub text-no-n : (form : Form) → Among texts form → isN form ≡ true → ⊥
+text-no-n Words h e = true-false (sym e)
+text-no-n Code h e = true-false (sym e)
+text-no-n Tipo h e = true-false (sym e)
+text-no-n Sense h e = true-false (sym e)
+text-no-n Sign h e = true-false (sym e)
+text-no-n Number h e = miss texts 5 tt h
+text-no-n Size h e = miss texts 6 tt h
+
+-- a number's key, missing or not
+pub number-key : (form : Form) (t b : List ℕ) → form ≡ Number → keyIn (saidAs form t b) ≡ pick (isMissing (saidAs form t b)) 0 (numberIn (saidAs form t b) + 1)
+unfolding saidAs
+number-key form t b e = rw e (go (allOf Blank t) (numberOf t))
+  where
+    go : (blank : Bool) (n : ℕ)
+        → keyIn (pick blank missing (number n)) ≡ pick (isMissing (pick blank missing (number n))) 0 (numberIn (pick blank missing (number n)) + 1)
+    go true n = refl
+    go false n = refl
+
+-- PLACES: what a field of a coordinate says, missing or a coordinate
+abbrev pub Placed : Said → Type 0
+Placed missing = Unit {0}
+Placed (number n) = ⊥
+Placed (text t) = ⊥
+Placed (coordinate z) = Unit {0}
+
+pub placed-size : (form : Form) (t b : List ℕ) → form ≡ Size → Placed (saidAs form t b)
+unfolding saidAs
+placed-size form t b e = rw e (go (allOf Blank t) _)
+  where
+    go : (blank : Bool) (z : ℤ) → Placed (pick blank missing (coordinate z))
+    go true z = tt
+    go false z = tt
+
+place-of-same : (y z : ℤ) → placeOf y ≡ placeOf z → y ≡ z
+place-of-same (pos m) (pos n) e = ap pos (omega arith)
+place-of-same (pos m) (negsuc n) e = absurd (omega arith)
+place-of-same (negsuc m) (pos n) e = absurd (omega arith)
+place-of-same (negsuc m) (negsuc n) e = ap negsuc (omega arith)
+
+place-some : (z : ℤ) → 0 < placeOf z
+place-some (pos n) = omega arith
+place-some (negsuc n) = omega arith
+
+-- two of these with the same place are the same
+pub place-same : (x y : Said) → Placed x → Placed y → placeIn x ≡ placeIn y → x ≡ y
+place-same missing missing p q e = refl
+place-same missing (number n) p q e = absurd q
+place-same missing (text t) p q e = absurd q
+place-same missing (coordinate z) p q e = absurd (omega (arith, place-some z))
+place-same (number n) y p q e = absurd p
+place-same (text t) y p q e = absurd p
+place-same (coordinate z) missing p q e = absurd (omega (arith, place-some z))
+place-same (coordinate z) (number n) p q e = absurd q
+place-same (coordinate z) (text t) p q e = absurd q
+place-same (coordinate y) (coordinate z) p q e = ap coordinate (place-of-same y z e)
 
 -- KEYS: a number, or a text of up to seven bytes, so that its word ends in a blank
 abbrev pub Keyed : Form → List ℕ → Type 0

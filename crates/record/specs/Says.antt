@@ -4,7 +4,7 @@
 use Prim.Native.Nat.{ℕ, _+_, _-_, min}
 use mathlib.Core.Bool.{Bool, true, false}
 use mathlib.Core.List.{List, []}
-use lib.IntN.{ℤ, pos}
+use lib.IntN.{ℤ, pos, negsuc}
 use lib.ListN.{getD}
 use lib.Dec.{eqb}
 use Rattle.laws.specs.Row.{pick}
@@ -88,3 +88,14 @@ letterIn missing = 0
 letterIn (number n) = 0
 letterIn (text t) = getD t 0 0
 letterIn (coordinate z) = 0
+
+-- a coordinate as one number, by which places are compared: 0 where it is missing, so that a missing Z equals only a missing Z
+abbrev pub placeOf : ℤ → ℕ
+placeOf (pos n) = n + n + 1
+placeOf (negsuc n) = n + n + 2
+
+abbrev pub placeIn : Said → ℕ
+placeIn missing = 0
+placeIn (number n) = 0
+placeIn (text t) = 0
+placeIn (coordinate z) = placeOf z

@@ -11,10 +11,11 @@ use field::number::get_coordinate;
 use field::number::get_number;
 use field::words::word;
 ghost use mathlib.Core.Path.{_≡_};
+ghost use mathlib.Core.Bool.{true};
 ghost use Prim.Native.Nat.{ℕ, _+_, _<_, _≤_, _^_, _-_};
-ghost use Rattle.record.specs.Table.{formAt};
+ghost use Rattle.record.specs.Table.{formAt, isN};
 ghost use Rattle.record.specs.Cut.{textOf};
-ghost use Rattle.record.specs.Says.{saidIn, saidAs, tableOf, isMissing, numberIn, coordinateIn, keyIn, letterIn};
+ghost use Rattle.record.specs.Says.{saidIn, saidAs, tableOf, isMissing, numberIn, coordinateIn, keyIn, letterIn, placeIn};
 
 fn is_missing_in(form: Form, t: &[u8], b: &[u8]) -> bool
     ensures { λ r. ⌜ r ≡ isMissing (saidAs form (now (t .entry)) (now (b .entry))) ⌝ }
@@ -46,6 +47,7 @@ fn coordinate_in(form: Form, t: &[u8], b: &[u8]) -> i64
 
 fn key_in(form: Form, t: &[u8], b: &[u8]) -> u64
     ensures { λ r. ⌜ r ≡ keyIn (saidAs form (now (t .entry)) (now (b .entry))) ⌝ }
+    ensures narrow { λ r. ⌜ (isN form ≡ true → r ≤ 2 ^ 38) ⌝ }
 {
     if is_missing_in(form, t, b) {
         return 0;
@@ -69,6 +71,26 @@ fn letter_in(form: Form, t: &[u8], b: &[u8]) -> u8
         Form::Number => 0,
         Form::Size => 0,
         _ => byte(t, 0),
+    }
+}
+
+// The coordinate as one number, by which places are compared.
+fn place_in(form: Form, t: &[u8], b: &[u8]) -> u64
+    ensures { λ r. ⌜ r ≡ placeIn (saidAs form (now (t .entry)) (now (b .entry))) ⌝ }
+    ensures narrow { λ r. ⌜ r < 2 ^ 40 ⌝ }
+{
+    if is_missing_in(form, t, b) {
+        return 0;
+    }
+    match form {
+        Form::Size => {
+            let n = get_number(t);
+            if (byte(b, 0) == 45) & (n != 0) {
+                return n + n;
+            }
+            n + n + 1
+        }
+        _ => 0,
     }
 }
 
@@ -108,9 +130,18 @@ pub fn coordinate(s: &[u8], k: Kind, i: usize, f: usize) -> i64
 // What is said as one number, by which keys and references are compared.
 pub fn key(s: &[u8], k: Kind, i: usize, f: usize) -> u64
     ensures { λ r. ⌜ r ≡ keyIn (tableOf (now (s .entry)) k .says i f) ⌝ }
+    ensures narrow { λ r. ⌜ (isN (formAt k f) ≡ true → r ≤ 2 ^ 38) ⌝ }
 {
     let rec = record_bytes(s, k, i);
     key_in(k.form(f), field(rec, k, f), field_before(rec, k, f))
+}
+
+pub fn place(s: &[u8], k: Kind, i: usize, f: usize) -> u64
+    ensures { λ r. ⌜ r ≡ placeIn (tableOf (now (s .entry)) k .says i f) ⌝ }
+    ensures narrow { λ r. ⌜ r < 2 ^ 40 ⌝ }
+{
+    let rec = record_bytes(s, k, i);
+    place_in(k.form(f), field(rec, k, f), field_before(rec, k, f))
 }
 
 // The first byte of the text.

@@ -1,5 +1,7 @@
 -- `record::columns::key` meets its contract.
 -- Assumes nothing.
+use mathlib.Core.Path.{ap, _∙_}
+use Rattle.record.specs.Table.{isN}
 use Rattle.record.specs.Says.{saidIn}
 use borrow.Author.Needs.{needs}
 use Rattle.record.proofs.columns.key.Statement.{statement}
@@ -22,8 +24,10 @@ key-in-requires c κs = search needs
 
 returns : tie.Need-returns
 unfolding saidIn
-returns c =
-    simp (c .key-in .ensures, c .before .field-before .ensures, c .before .before .field .ensures, c .before .before .before .form .ensures, c .before .before .before .before .record-bytes .ensures)
+returns c = (
+  simp (c .key-in .ensures .0, c .before .field-before .ensures, c .before .before .field .ensures, c .before .before .before .form .ensures, c .before .before .before .before .record-bytes .ensures),
+  λ n. c .key-in .ensures .1 (ap isN (c .before .before .before .form .ensures) ∙ n),
+)
 
 pub key-spec : {M : Type 1} → statement M
 key-spec =

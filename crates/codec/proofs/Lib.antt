@@ -1,0 +1,12 @@
+pub mod Shapes
+pub mod JoinLaws
+pub mod AllFalse
+pub mod OutFields
+pub mod Out
+pub mod InFields
+pub mod In
+pub mod ReadLaws
+pub mod RefuseLaws
+pub mod WriteLaws
+pub mod CallLaws
+pub mod Theorems

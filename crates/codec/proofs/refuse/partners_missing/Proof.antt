@@ -1,0 +1,81 @@
+-- `codec::refuse::partners_missing` meets its contract: the loop stops at the first partner that is not blank.
+-- Assumes nothing.
+use Prim.Native.Nat.{_-_}
+use native.Mathlib.Omega.{arith}
+use borrow.Author.Needs.{needs}
+use Rattle.codec.specs.Values.{valuesSay}
+use Rattle.codec.proofs.RefuseLaws.{Left, left-all, left-near, left-more, left-stop, left-none}
+use Rattle.codec.proofs.refuse.partners_missing.Statement.{statement}
+use Rattle.codec.proofs.refuse.partners_missing.Tie as tie
+
+abbrev Inv-loop : tie.InvT-loop
+Inv-loop k v f from n j₀ j = Left k (valuesSay k v) f from n j
+
+abbrev μ-loop : tie.MeasureT-loop
+μ-loop k v f from n j₀ j = n - j
+
+before-requires : tie.Need-before-requires Inv-loop μ-loop
+before-requires c κs = search needs
+
+minus-requires : tie.Need-minus-requires Inv-loop μ-loop
+minus-requires c κs = search needs
+
+before-requires-2 : tie.Need-before-requires-2 Inv-loop μ-loop
+before-requires-2 c κs = search needs
+
+after-requires : tie.Need-after-requires Inv-loop μ-loop
+after-requires c κs = search needs
+
+add-n : tie.Need-add-n Inv-loop μ-loop
+add-n c = omega arith
+
+add-n-2 : tie.Need-add-n-2 Inv-loop μ-loop
+add-n-2 c = omega arith
+
+loop-holds : tie.Need-loop-holds Inv-loop μ-loop
+loop-holds c =
+    let b = c .before .before .before in
+    let a = b .before .args in
+    left-all (a .k) (valuesSay (a .k) (a .v)) (a .f) (c .before .before .minus .ensures) (b .before2 .ensures .0) (c .before .before3 .ensures .0) (c .after .ensures .0)
+
+add-blank-at : tie.Need-add-blank-at Inv-loop μ-loop
+add-blank-at c = omega (arith, left-near (c .before .loop .inv) (c .loop-test .taken))
+
+blank-at-requires : tie.Need-blank-at-requires Inv-loop μ-loop
+blank-at-requires c κs = omega (arith, left-near (c .before .loop .inv) (c .loop-test .taken))
+
+add-j : tie.Need-add-j Inv-loop μ-loop
+add-j c = omega arith
+
+loop-less : tie.Need-loop-less Inv-loop μ-loop
+loop-less c = omega arith
+
+loop-again : tie.Need-loop-again Inv-loop μ-loop
+loop-again c = left-more (c .before .before .before .loop .inv) (c .before .blank-at .ensures) (c .before .before .loop-test .taken) (c .if1 .taken)
+
+returns : tie.Need-returns Inv-loop μ-loop
+returns c = left-stop (c .before .before .before .loop .inv) (c .before .blank-at .ensures) (c .before .before .loop-test .taken) (c .if1 .left)
+
+returns-2 : tie.Need-returns-2 Inv-loop μ-loop
+returns-2 c = left-none (c .before .loop .inv) (c .loop-test .left)
+
+pub partners-missing-spec : {M : Type 1} → statement M
+partners-missing-spec =
+    tie.close
+    (tie.spec
+    Inv-loop
+    μ-loop
+    before-requires
+    minus-requires
+    before-requires-2
+    after-requires
+    add-n
+    add-n-2
+    loop-holds
+    add-blank-at
+    blank-at-requires
+    add-j
+    loop-less
+    loop-again
+    returns
+    returns-2)

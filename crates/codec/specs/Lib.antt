@@ -1,0 +1,4 @@
+pub mod Values
+pub mod Writes
+pub mod Refusals
+pub mod Calls

@@ -1,0 +1,5 @@
+// One record of any of the seven files, read as values and written from values.
+pub mod read;
+mod refuse;
+pub mod values;
+pub mod write;
