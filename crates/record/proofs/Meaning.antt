@@ -266,3 +266,10 @@ module _ (t : ℕ) (s : List ℕ) (k : Kind) where
       let r : b .«record» ≡ b' .«record» = cc in
       let f : b .field ≡ b' .field = cc in
       ap Broken (break-one b b' (reason-one (b .reason) (b' .reason) n (means-below b m)) (m .1 ∙ sym (m' .1)) r f)
+
+  -- the break shown has its number's reason
+  pub means-shown :
+      (b : Break) → Means t s k (Broken b)
+      → b ≡ breakOf (getD (getD ([] ∷ tens ∷ twentyReasons ∷ []) t []) (numberOf (b .reason) % 10) R.LongFile10) k (b .«record») (b .field)
+  unfolding MeansBy reasonAt groupAt
+  means-shown b m = break-one b _ (rw (m .0) at (sym (known (b .reason) (means-below b m)))) (m .1) refl refl

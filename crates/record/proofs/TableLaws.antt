@@ -45,7 +45,7 @@ default-at d xs (suc n) o = sym (List·getD-eq-default xs d {n = n} (le-of-suc-l
 abbrev pub kinds : List Kind
 kinds = Catalogo ∷ ObPun ∷ ObTex ∷ ObLin ∷ Tramo ∷ Vertice ∷ Nodo ∷ []
 
-kind-at : (k : Kind) → getD kinds (fileOf k - 1) Catalogo ≡ k
+pub kind-at : (k : Kind) → getD kinds (fileOf k - 1) Catalogo ≡ k
 kind-at Catalogo = refl
 kind-at ObPun = refl
 kind-at ObTex = refl
@@ -54,7 +54,7 @@ kind-at Tramo = refl
 kind-at Vertice = refl
 kind-at Nodo = refl
 
-every : (p : Kind → Bool) → each p kinds ≡ true → (k : Kind) → p k ≡ true
+pub every : (p : Kind → Bool) → each p kinds ≡ true → (k : Kind) → p k ≡ true
 unfolding each
 every p e k = subst (λ (j : Kind). p j ≡ true) (kind-at k) (each-getD p kinds Catalogo (and-true (p Catalogo) _ e .0) e (fileOf k - 1))
 

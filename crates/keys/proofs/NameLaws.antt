@@ -1,0 +1,104 @@
+-- How records are named (specs/Delivery.antt), as the code reads it: what a field refers to, a tramo's own line, keys.
+-- Assumes nothing.
+use Prim.Native.Nat.{ℕ, zero, suc, _+_, _*_, _≤_}
+use mathlib.Core.Bool.{Bool, true, false}
+use mathlib.Core.List.{List, [], _∷_}
+use mathlib.Core.Path.{_≡_, refl, sym}
+use native.Mathlib.Omega.{arith}
+use denote.Enum.Declared.{tagOf}
+use types.Run.{OneOf, miss}
+use borrow.Author.Tests.{ne-eqb}
+use lib.ListN.{length, drop, List·getD-eq-default, getD}
+use Rattle.laws.specs.Row.{pick}
+use Rattle.record.specs.declared.kind.Kind.{Kind}
+use Rattle.record.specs.declared.kind.Kind.the-variants.{Catalogo, ObPun, ObTex, ObLin, Tramo, Vertice, Nodo}
+use Rattle.record.specs.Table.{colAt, formAt}
+use Rattle.record.specs.Says.{Table, saidIn, tableOf, isMissing, numberIn, keyIn}
+use Rattle.record.proofs.SaysLaws.{number-key}
+use Rattle.record.proofs.kind.Kind.{the-type}
+use Rattle.keys.specs.declared.names.Target.{Target}
+use Rattle.keys.specs.declared.names.Target.the-variants.{Free}
+use Rattle.keys.specs.Delivery.{ownLine, nameAt, keyOf, targets, targetOf}
+
+-- TARGETS: n is none of the m numbers from a, as the rest of a `match` says it
+abbrev pub Skips : ℕ → ℕ → ℕ → Type 0
+Skips a zero n = Unit {0}
+Skips a (suc m) n = Skips a m n × (n ≡ a + m → ⊥)
+
+skips-past : (a m n : ℕ) → Skips a m n → a ≤ n → a + m ≤ n
+skips-past a zero n s l = omega arith
+skips-past a (suc m) n s l = let h = skips-past a m n (s .0) l in let d = s .1 in omega arith
+
+-- the list after a fields that refer to nothing
+abbrev pub frees : ℕ → List Target → List Target
+frees zero ts = ts
+frees (suc a) ts = Free ∷ frees a ts
+
+free-past : (a : ℕ) (ts : List Target) (n : ℕ) → (a ≤ n → a + length ts ≤ n) → Free ≡ getD (frees a ts) n Free
+free-past zero ts n h = sym (List·getD-eq-default ts Free {n = n} (omega (arith, h (omega arith))))
+free-past (suc a) ts zero h = refl
+free-past (suc a) ts (suc n) h = free-past a ts n (λ l. omega (arith, h (omega arith)))
+
+-- where the first a fields refer to nothing, so does every field that is none of those listed after them
+pub free-rest : (a : ℕ) (j : Kind) {k : Kind} (f : ℕ) → k ≡ j → targets j ≡ frees a (drop a (targets j)) → Skips a (length (drop a (targets j))) f → Free ≡ targetOf k f
+unfolding targetOf
+free-rest a j f e t s = rw (e, t) (free-past a (drop a (targets j)) f (skips-past a (length (drop a (targets j))) f s))
+
+-- KINDS of the rest of a `match` after one of them, by their places in the enum
+abbrev pub Among : List ℕ → Kind → Type 0
+Among ks k = OneOf ks (tagOf the-type k)
+
+abbrev pub noTramo : List ℕ
+noTramo = 0 ∷ 1 ∷ 2 ∷ 3 ∷ 5 ∷ 6 ∷ []
+
+abbrev pub noVertice : List ℕ
+noVertice = 0 ∷ 1 ∷ 2 ∷ 3 ∷ 4 ∷ 6 ∷ []
+
+module _ (t : Table) (i : ℕ) where
+  -- A TRAMO'S OWN LINE
+  pub own-four : {k : Kind} {f : ℕ} {r : Bool} → k ≡ Tramo → f ≡ 4 → r ≡ isMissing (t .says i 4) → r ≡ ownLine k t i f
+  own-four e h q = rw (e, h) q
+
+  pub own-field : {k : Kind} {f : ℕ} → k ≡ Tramo → (f ≡ 4 → ⊥) → false ≡ ownLine k t i f
+  own-field {f = f} e h = rw (e, ne-eqb f 4 h)
+
+  pub own-other : (k : Kind) (f : ℕ) → Among noTramo k → false ≡ ownLine k t i f
+  own-other Catalogo f h = refl
+  own-other ObPun f h = refl
+  own-other ObTex f h = refl
+  own-other ObLin f h = refl
+  own-other Tramo f h = absurd (miss noTramo 4 tt h)
+  own-other Vertice f h = refl
+  own-other Nodo f h = refl
+
+  -- NAMES, from the code's test b of the own line
+  pub name-said : (k : Kind) (f : ℕ) {o b : Bool} {r : ℕ} → o ≡ ownLine k t i f → o ≡ b → r ≡ pick b (keyIn (t .says i 1)) (keyIn (t .says i f)) → r ≡ nameAt k t i f
+  unfolding nameAt
+  name-said k f e h q = rw (← e, h) q
+
+  -- KEYS: a name, but of a vertex
+  pub key-name : (k : Kind) → Among noVertice k → nameAt k t i 1 ≡ keyOf k t i
+  unfolding keyOf
+  key-name Catalogo h = refl
+  key-name ObPun h = refl
+  key-name ObTex h = refl
+  key-name ObLin h = refl
+  key-name Tramo h = refl
+  key-name Vertice h = absurd (miss noVertice 5 tt h)
+  key-name Nodo h = refl
+
+-- A VERTEX'S KEY: its order, and before it its line, from what the code reads of them
+module _ (s : List ℕ) (i : ℕ) where
+  line-name : keyIn (tableOf s Vertice .says i 1) ≡ pick (isMissing (tableOf s Vertice .says i 1)) 0 (numberIn (tableOf s Vertice .says i 1) + 1)
+  unfolding saidIn formAt colAt
+  line-name = number-key _ _ _ refl
+
+  pub key-no-line : {m : Bool} {order : ℕ} → m ≡ isMissing (tableOf s Vertice .says i 1) → m ≡ true → order ≡ numberIn (tableOf s Vertice .says i 2)
+      → order ≡ keyOf Vertice (tableOf s Vertice) i
+  unfolding keyOf nameAt
+  key-no-line e h o = rw (line-name, ← e, h) (omega arith)
+
+  pub key-line : {m : Bool} {line order : ℕ} → m ≡ isMissing (tableOf s Vertice .says i 1) → m ≡ false → line ≡ numberIn (tableOf s Vertice .says i 1)
+      → order ≡ numberIn (tableOf s Vertice .says i 2) → (line + 1) * 100000 + order ≡ keyOf Vertice (tableOf s Vertice) i
+  unfolding keyOf nameAt
+  key-line e h l o = rw (line-name, ← e, h, l, o)

@@ -1,0 +1,67 @@
+-- The laws of references: tests of a name by cases, and searches over arrays carried to the columns that fill them.
+-- Assumes nothing.
+use Prim.Native.Nat.{ℕ, _<_, _≤_}
+use mathlib.Core.Bool.{Bool, true, false, not}
+use mathlib.Core.List.{List}
+use mathlib.Core.Path.{_≡_, ap, _∙_}
+use native.Mathlib.Omega.{arith}
+use lib.ListN.{length, getD}
+use borrow.Author.Tests.{eq-eqb, ne-eqb}
+use Rattle.laws.specs.Find.{firstIndex}
+use Rattle.laws.proofs.FindLaws.{index-same, any-same, any-true}
+use Rattle.index.specs.Keys.{listed}
+use Rattle.index.specs.Look.{Sought}
+use Rattle.index.specs.declared.Found.{Found}
+use Rattle.index.specs.declared.Found.the-variants.{At, Nothing}
+use Rattle.index.proofs.LookLaws.{sought-record, sought-yes, sought-none}
+use Rattle.record.specs.declared.kind.Kind.the-variants.{Catalogo}
+use Rattle.record.specs.Says.{Table, letterIn}
+use Rattle.keys.specs.Columns.{Fills}
+use Rattle.keys.specs.Delivery.{nameAt}
+use Rattle.keys.specs.Rules.{names, dangles, typedIn, mistyped}
+
+-- A NAME that dangles, where r is whether a record has it
+module _ (key : ℕ → ℕ) (n x : ℕ) where
+  pub dangles-missing : x ≡ 0 → dangles key n x ≡ false
+  unfolding dangles
+  dangles-missing e = rw (eq-eqb x 0 e)
+
+  pub dangles-named : {r : Bool} → (x ≡ 0 → ⊥) → r ≡ names key n x → dangles key n x ≡ not r
+  unfolding dangles
+  dangles-named h e = rw (ne-eqb x 0 h, ← e)
+
+-- A COLUMN in an array: a search reads the array as the column
+module _ {l : List ℕ} {key : ℕ → ℕ} {m n : ℕ} (fills : Fills l key m n) where
+  pub index-filled : (p q : ℕ → Bool) → ((x : ℕ) → p x ≡ q x) → firstIndex (λ i. p (getD l i 0)) n ≡ firstIndex (λ i. q (key i)) m
+  index-filled p q same =
+      rw (fills .count) (index-same _ _ m (λ k u. same (getD l k 0) ∙ ap q (fills .holds k u)))
+
+  pub fills-room : n ≤ length l
+  fills-room = omega (arith, fills .count, fills .small, fills .long)
+
+  pub names-column : (x : ℕ) → names (listed l) n x ≡ names key m x
+  names-column x = rw (fills .count) (any-same _ _ m (λ k u. rw (fills .holds k u)))
+
+  pub dangles-filled : (x : ℕ) → dangles (listed l) n x ≡ dangles key m x
+  unfolding dangles
+  dangles-filled x = rw (names-column x)
+
+-- A CODE of another type than the one wanted, where f is what a look-up of the code says
+module _ (cat : Table) {keys : List ℕ} {n : ℕ} (fills : Fills keys (λ j. nameAt Catalogo cat j 1) (cat .count) n) (wanted x : ℕ) {f : Found} (s : Sought keys n x f) where
+  pub mistyped-none : f ≡ Nothing → false ≡ mistyped wanted cat x
+  unfolding mistyped
+  mistyped-none e = rw (← names-column fills x, ← sought-none keys n x s e)
+
+  pub mistyped-found : {j : ℕ} → f ≡ At j → mistyped wanted cat x ≡ not (typedIn wanted cat x)
+  unfolding mistyped
+  mistyped-found e = rw (← names-column fills x, ← sought-yes keys n x s e)
+
+  pub typed-found : {j : ℕ} → f ≡ At j → letterIn (cat .says j 2) ≡ wanted → typedIn wanted cat x ≡ true
+  unfolding typedIn
+  typed-found {j} e h =
+      let r = sought-record keys n x s e in
+      let u : j < cat .count = omega (arith, fills .count) in
+      any-true _ _ u (rw (← fills .holds j u, eq-eqb (getD keys j 0) x (r .1), eq-eqb _ _ h))
+
+  pub mistyped-typed : {j : ℕ} → f ≡ At j → letterIn (cat .says j 2) ≡ wanted → false ≡ mistyped wanted cat x
+  mistyped-typed e h = rw (mistyped-found e, typed-found e h)

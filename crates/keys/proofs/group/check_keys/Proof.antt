@@ -1,0 +1,65 @@
+-- `keys::group::check_keys` meets its contract. The loop's invariant: the files before number `n` give nothing.
+-- Assumes nothing.
+use Prim.Native.Nat.{_-_}
+use borrow.Author.Needs.{needs}
+use Rattle.keys.specs.Delivery.{filesOf, deliveryOf}
+use Rattle.keys.specs.Findings.{keysIn, keysFinding}
+use Rattle.keys.proofs.CellLaws.{Onward, files-start, files-more, files-here, files-end}
+use Rattle.keys.proofs.group.check_keys.Statement.{statement}
+use Rattle.keys.proofs.group.check_keys.Tie as tie
+
+abbrev Inv-loop : tie.InvT-loop
+Inv-loop t catalogo ob-pun ob-tex ob-lin tramo vertice nodo n₀ n =
+    Onward (keysIn t (deliveryOf (filesOf catalogo ob-pun ob-tex ob-lin tramo vertice nodo))) n
+
+abbrev μ-loop : tie.MeasureT-loop
+μ-loop t catalogo ob-pun ob-tex ob-lin tramo vertice nodo n₀ n = 8 - n
+
+loop-holds : tie.Need-loop-holds Inv-loop μ-loop
+loop-holds c = files-start _
+
+kind-of-requires : tie.Need-kind-of-requires Inv-loop μ-loop
+kind-of-requires c κs = search needs
+
+check-which-requires : tie.Need-check-which-requires Inv-loop μ-loop
+check-which-requires c κs = search needs
+
+is-fine-requires : tie.Need-is-fine-requires Inv-loop μ-loop
+is-fine-requires c κs = search needs
+
+add-n : tie.Need-add-n Inv-loop μ-loop
+add-n c = search needs
+
+loop-less : tie.Need-loop-less Inv-loop μ-loop
+loop-less c = search needs
+
+loop-again : tie.Need-loop-again Inv-loop μ-loop
+loop-again c =
+    files-more (c .before .before .before .before .before .loop .inv) (c .before .before .before .before .loop-test .taken)
+    (c .before .before .before .kind-of .ensures) (c .before .before .check-which .ensures) (c .before .is-fine .ensures) (c .if1 .taken)
+
+returns : tie.Need-returns Inv-loop μ-loop
+unfolding keysFinding
+returns c =
+    files-here (c .before .before .before .before .before .loop .inv) (c .before .before .before .before .loop-test .taken)
+    (c .before .before .before .kind-of .ensures) (c .before .before .check-which .ensures) (c .before .is-fine .ensures) (c .if1 .left)
+
+returns-2 : tie.Need-returns-2 Inv-loop μ-loop
+unfolding keysFinding
+returns-2 c = files-end (c .before .loop .inv) (c .loop-test .left)
+
+pub check-keys-spec : {M : Type 1} → statement M
+check-keys-spec =
+    tie.close
+    (tie.spec
+    Inv-loop
+    μ-loop
+    loop-holds
+    kind-of-requires
+    check-which-requires
+    is-fine-requires
+    add-n
+    loop-less
+    loop-again
+    returns
+    returns-2)

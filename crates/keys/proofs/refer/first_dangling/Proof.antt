@@ -1,0 +1,58 @@
+-- `keys::refer::first_dangling` meets its contract. The arrays hold the columns, and the sort has room.
+-- Assumes nothing.
+use mathlib.Core.Path.{ap, _∙_}
+use Rattle.index.specs.Keys.{foundOf}
+use Rattle.index.proofs.OrderLaws.{sorts-room}
+use Rattle.keys.proofs.ReferLaws.{fills-room, index-filled, dangles-filled}
+use borrow.Author.Needs.{needs}
+use Rattle.keys.proofs.refer.first_dangling.Statement.{statement}
+use Rattle.keys.proofs.refer.first_dangling.Tie as tie
+
+fill-names-requires : tie.Need-fill-names-requires
+fill-names-requires c κs = search needs
+
+fill-names-requires-2 : tie.Need-fill-names-requires-2
+fill-names-requires-2 c κs = search needs
+
+slice-aggregate-sort : tie.Need-slice-aggregate-sort
+slice-aggregate-sort c = search needs
+
+slice-aggregate-sort-2 : tie.Need-slice-aggregate-sort-2
+slice-aggregate-sort-2 c = search needs
+
+sort-requires : tie.Need-sort-requires
+sort-requires c κs = search needs
+
+slice-aggregate-first-unknown : tie.Need-slice-aggregate-first-unknown
+slice-aggregate-first-unknown c = search needs
+
+slice-aggregate-first-unknown-2 : tie.Need-slice-aggregate-first-unknown-2
+slice-aggregate-first-unknown-2 c = search needs
+
+slice-aggregate-first-unknown-3 : tie.Need-slice-aggregate-first-unknown-3
+slice-aggregate-first-unknown-3 c = search needs
+
+first-unknown-requires : tie.Need-first-unknown-requires
+first-unknown-requires c κs = (fills-room (c .before .before .before .before .before .before .before .before .before .before .fill-names .ensures), c .before .before .before .before .before .sort .ensures .index (c .before .before .before .if1 .taken))
+
+returns : tie.Need-returns
+returns c = c .first-unknown .ensures ∙ ap foundOf (index-filled (c .before .before .before .before .before .before .before .before .before .before .before .fill-names .ensures) _ _ (dangles-filled (c .before .before .before .before .before .before .before .before .before .fill-names2 .ensures)))
+
+returns-2 : tie.Need-returns-2
+returns-2 c = absurd (sorts-room (c .before .before .sort .ensures) (fills-room (c .before .before .before .before .before .fill-names2 .ensures)) (search needs) (c .if1 .left))
+
+pub first-dangling-spec : {M : Type 1} → statement M
+first-dangling-spec =
+    tie.close
+    (tie.spec
+    fill-names-requires
+    fill-names-requires-2
+    slice-aggregate-sort
+    slice-aggregate-sort-2
+    sort-requires
+    slice-aggregate-first-unknown
+    slice-aggregate-first-unknown-2
+    slice-aggregate-first-unknown-3
+    first-unknown-requires
+    returns
+    returns-2)

@@ -1,0 +1,59 @@
+-- `keys::refer::first_mistyped` meets its contract. The arrays hold the columns, and the sort has room.
+-- Assumes nothing.
+use mathlib.Core.Path.{refl, ap, _∙_}
+use Rattle.index.specs.Keys.{foundOf}
+use Rattle.keys.specs.Rules.{mistyped}
+use Rattle.index.proofs.OrderLaws.{sorts-room}
+use Rattle.keys.proofs.ReferLaws.{fills-room, index-filled}
+use borrow.Author.Needs.{needs}
+use Rattle.keys.proofs.refer.first_mistyped.Statement.{statement}
+use Rattle.keys.proofs.refer.first_mistyped.Tie as tie
+
+fill-names-requires : tie.Need-fill-names-requires
+fill-names-requires c κs = search needs
+
+fill-names-requires-2 : tie.Need-fill-names-requires-2
+fill-names-requires-2 c κs = search needs
+
+slice-aggregate-sort : tie.Need-slice-aggregate-sort
+slice-aggregate-sort c = search needs
+
+slice-aggregate-sort-2 : tie.Need-slice-aggregate-sort-2
+slice-aggregate-sort-2 c = search needs
+
+sort-requires : tie.Need-sort-requires
+sort-requires c κs = search needs
+
+slice-aggregate-first-mistyped-in : tie.Need-slice-aggregate-first-mistyped-in
+slice-aggregate-first-mistyped-in c = search needs
+
+slice-aggregate-first-mistyped-in-2 : tie.Need-slice-aggregate-first-mistyped-in-2
+slice-aggregate-first-mistyped-in-2 c = search needs
+
+slice-aggregate-first-mistyped-in-3 : tie.Need-slice-aggregate-first-mistyped-in-3
+slice-aggregate-first-mistyped-in-3 c = search needs
+
+first-mistyped-in-requires : tie.Need-first-mistyped-in-requires
+first-mistyped-in-requires c κs = (fills-room (c .before .before .before .before .before .before .before .before .before .before .fill-names .ensures), c .before .before .before .before .before .sort .ensures .index (c .before .before .before .if1 .taken), c .before .before .before .before .before .before .before .before .fill-names2 .ensures)
+
+returns : tie.Need-returns
+returns c = c .first-mistyped-in .ensures ∙ ap foundOf (index-filled (c .before .before .before .before .before .before .before .before .before .before .before .fill-names .ensures) (mistyped _ _) (mistyped _ _) (λ x. refl))
+
+returns-2 : tie.Need-returns-2
+returns-2 c = absurd (sorts-room (c .before .before .sort .ensures) (fills-room (c .before .before .before .before .before .fill-names2 .ensures)) (search needs) (c .if1 .left))
+
+pub first-mistyped-spec : {M : Type 1} → statement M
+first-mistyped-spec =
+    tie.close
+    (tie.spec
+    fill-names-requires
+    fill-names-requires-2
+    slice-aggregate-sort
+    slice-aggregate-sort-2
+    sort-requires
+    slice-aggregate-first-mistyped-in
+    slice-aggregate-first-mistyped-in-2
+    slice-aggregate-first-mistyped-in-3
+    first-mistyped-in-requires
+    returns
+    returns-2)

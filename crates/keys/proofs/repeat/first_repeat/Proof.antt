@@ -1,0 +1,22 @@
+-- `first_repeat` meets its contract: the keys are in the array, and the first that is there twice is found.
+-- Assumes nothing.
+use borrow.Author.Needs.{needs}
+use Rattle.keys.proofs.ColumnLaws.{repeat-filled}
+use Rattle.keys.proofs.repeat.first_repeat.Statement.{statement}
+use Rattle.keys.proofs.repeat.first_repeat.Tie as tie
+
+fill-keys-requires : tie.Need-fill-keys-requires
+fill-keys-requires c κs = search needs
+
+slice-aggregate-duplicate : tie.Need-slice-aggregate-duplicate
+slice-aggregate-duplicate c = search needs
+
+duplicate-requires : tie.Need-duplicate-requires
+duplicate-requires c κs = search needs
+
+returns : tie.Need-returns
+returns c = repeat-filled _ (c .before .before .fill-keys .ensures) (c .duplicate .ensures)
+
+pub first-repeat-spec : {M : Type 1} → statement M
+first-repeat-spec =
+    tie.close (tie.spec fill-keys-requires slice-aggregate-duplicate duplicate-requires returns)

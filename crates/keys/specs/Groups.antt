@@ -1,0 +1,76 @@
+-- The first break of a group of reasons in a file, from tests that give a Bool for each reason of the group at each record and field.
+-- Assumes nothing.
+use Prim.Native.Nat.{ℕ, zero, suc, _+_, _-_, _*_, _/_, _%_}
+use mathlib.Core.Bool.{Bool, true, false, _&&_}
+use mathlib.Core.List.{List, []}
+use mathlib.Core.Option.{Option, none, some}
+use lib.Dec.{leb}
+use lib.ListN.{getD}
+use Rattle.laws.specs.Find.{firstOf, hit}
+use Rattle.laws.specs.Row.{pick}
+use Rattle.index.specs.declared.Found.{Found}
+use Rattle.index.specs.declared.Found.the-variants.{At, Nothing}
+use Rattle.record.specs.declared.kind.Kind.{Kind}
+use Rattle.record.specs.declared.kind.Which.{Which}
+use Rattle.record.specs.declared.kind.Which.the-variants.{NoFile, File}
+use Rattle.record.specs.declared.reason.Reason.{Reason}
+use Rattle.record.specs.declared.reason.Reason.the-variants.{LongFile10}
+use Rattle.record.specs.declared.reason.Break.{Break}
+use Rattle.record.specs.declared.reason.Finding.{Finding}
+use Rattle.record.specs.declared.reason.Finding.the-variants.{Fine, Broken}
+use Rattle.record.specs.Table.{fieldsOf, whichOf}
+use Rattle.record.specs.Breaks.{breakOf, findingOf}
+use Rattle.keys.specs.declared.group.Best.{Best}
+
+-- the tests and the reasons of a group at record i (counted from 0) and field f, in the order of the reasons
+abbrev pub Tests : Type 0
+Tests = ℕ → ℕ → List Bool
+
+abbrev pub Reasons : Type 0
+Reasons = ℕ → ℕ → List Reason
+
+-- the break at record i and cell c: ten cells a field, one for each reason of the group
+unfoldable pub cellBreak : Tests → Reasons → Kind → ℕ → ℕ → Option Break
+cellBreak tests reasons k i c =
+    hit (getD (tests i (c / 10)) (c % 10) false) (breakOf (getD (reasons i (c / 10)) (c % 10) LongFile10) k (i + 1) (c / 10))
+
+-- how many cells a record has
+abbrev pub cellsOf : Kind → ℕ
+cellsOf k = (fieldsOf k + 1) * 10
+
+-- the first break of n records, by record, field and reason
+unfoldable pub groupFinding : Tests → Reasons → Kind → ℕ → Finding
+groupFinding tests reasons k n = findingOf (firstOf (λ i. firstOf (λ c. cellBreak tests reasons k i c) (cellsOf k)) n)
+
+-- the reason with document 01's number n is broken at record i, counted from 1, and field f of a file of m records
+unfoldable pub brokenBy : (ℕ → Tests) → Kind → ℕ → ℕ → ℕ → ℕ → Bool
+brokenBy tests k m n i f =
+    leb 1 i && leb i m && leb f (fieldsOf k) && getD (tests (n / 10) (i - 1) f) (n % 10) false
+
+-- BY CELLS: the same, from the first record of each cell
+
+-- of two answers the one with the lower record, and of equals the first
+abbrev pub betterOf : Best → Found → ℕ → Best
+betterOf b Nothing c = b
+betterOf b (At i) c = pick (b .found && leb (b .at) i) b (record { found = true; at = i; cell = c })
+
+abbrev pub noBest : Best
+noBest = record { found = false; at = 0; cell = 0 }
+
+-- the best of the first n cells, where g gives each cell's first record
+unfoldable pub bestOf : (ℕ → Found) → ℕ → Best
+bestOf g zero = noBest
+bestOf g (suc n) = betterOf (bestOf g n) (g n) n
+
+-- OVER THE FILES, in the order of their numbers
+abbrev pub breakIn : Finding → Option Break
+breakIn Fine = none
+breakIn (Broken b) = some b
+
+abbrev pub atFile : (Kind → Finding) → Which → Finding
+atFile g NoFile = Fine
+atFile g (File k) = g k
+
+-- the first break of the files' findings
+unfoldable pub overFiles : (Kind → Finding) → Finding
+overFiles g = findingOf (firstOf (λ n. breakIn (atFile g (whichOf n))) 8)

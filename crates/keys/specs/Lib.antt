@@ -1,0 +1,5 @@
+pub mod Delivery
+pub mod Rules
+pub mod Columns
+pub mod Groups
+pub mod Findings

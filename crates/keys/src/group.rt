@@ -1,0 +1,352 @@
+// The first break of the thirties and forties in a file and in a delivery. A file's first break is sought by cells, ten a field, one
+// for each reason: the first record of each cell, and of those the least.
+use crate::names::Target;
+use crate::names::file_of;
+use crate::names::name;
+use crate::names::record_key;
+use crate::names::target_of;
+use crate::names::type_of;
+use crate::refer::first_dangling;
+use crate::refer::first_mistyped;
+use crate::refer::first_present;
+use crate::repeat::first_repeat;
+use index::Found;
+use record::check::break_of;
+use record::columns::letter;
+use record::columns::rows;
+use record::kind::Kind;
+use record::kind::Which;
+use record::kind::kind_of;
+use record::reason::Finding;
+use record::reason::Reason;
+ghost use mathlib.Core.Path.{_≡_};
+ghost use mathlib.Core.Bool.{false};
+ghost use mathlib.Core.List.{List};
+ghost use Prim.Native.Nat.{ℕ, _≤_, _<_};
+ghost use lib.ListN.{getD};
+ghost use Rattle.laws.specs.Find.{firstIndex};
+ghost use Rattle.index.specs.Keys.{foundOf};
+ghost use Rattle.record.specs.Says.{tableOf};
+ghost use Rattle.keys.specs.Delivery.{filesOf, deliveryOf, nameAt, keyOf};
+ghost use Rattle.keys.specs.Rules.{breaks30, breaks40, breaks41, keyTests, keyReasons, refersToCatalogue, firstNamed};
+ghost use Rattle.keys.specs.Groups.{betterOf, atFile};
+ghost use Rattle.keys.specs.Findings.{keysIn, keysFinding};
+
+// The least record of some cells and its cell, where one is found.
+pub struct Best {
+    pub found: bool,
+    pub at: usize,
+    pub cell: usize,
+}
+
+// Of two answers the one with the lower record, and of equals the first.
+pub fn better(best: Best, found: Found, cell: usize) -> Best
+    ensures { λ r. ⌜ r ≡ betterOf best found cell ⌝ }
+{
+    match found {
+        Found::Nothing => best,
+        Found::At(i) => {
+            if best.found & (best.at <= i) {
+                best
+            } else {
+                Best {
+                    found: true,
+                    at: i,
+                    cell,
+                }
+            }
+        }
+    }
+}
+
+// 30, at the key's last field.
+fn first_30<'a>(
+    k: Kind,
+    f: usize,
+    catalogo: &'a [u8],
+    ob_pun: &'a [u8],
+    ob_tex: &'a [u8],
+    ob_lin: &'a [u8],
+    tramo: &'a [u8],
+    vertice: &'a [u8],
+    nodo: &'a [u8],
+) -> Found
+    ensures { λ r. ⌜ r ≡ foundOf (firstIndex (λ i. breaks30 (deliveryOf (filesOf (now (catalogo .entry)) (now («ob_pun» .entry)) (now («ob_tex» .entry)) (now («ob_lin» .entry)) (now (tramo .entry)) (now (vertice .entry)) (now (nodo .entry)))) k i f) ((deliveryOf (filesOf (now (catalogo .entry)) (now («ob_pun» .entry)) (now («ob_tex» .entry)) (now («ob_lin» .entry)) (now (tramo .entry)) (now (vertice .entry)) (now (nodo .entry)))) k .count)) ⌝ }
+{
+    if f == k.keys() {
+        first_repeat(
+            file_of(k, catalogo, ob_pun, ob_tex, ob_lin, tramo, vertice, nodo),
+            k,
+        )
+    } else {
+        Found::Nothing
+    }
+}
+
+// 40, by what the field refers to.
+fn first_40<'a>(
+    k: Kind,
+    f: usize,
+    catalogo: &'a [u8],
+    ob_pun: &'a [u8],
+    ob_tex: &'a [u8],
+    ob_lin: &'a [u8],
+    tramo: &'a [u8],
+    vertice: &'a [u8],
+    nodo: &'a [u8],
+) -> Found
+    ensures { λ r. ⌜ r ≡ foundOf (firstIndex (λ i. breaks40 (deliveryOf (filesOf (now (catalogo .entry)) (now («ob_pun» .entry)) (now («ob_tex» .entry)) (now («ob_lin» .entry)) (now (tramo .entry)) (now (vertice .entry)) (now (nodo .entry)))) k i f) ((deliveryOf (filesOf (now (catalogo .entry)) (now («ob_pun» .entry)) (now («ob_tex» .entry)) (now («ob_lin» .entry)) (now (tramo .entry)) (now (vertice .entry)) (now (nodo .entry)))) k .count)) ⌝ }
+{
+    let own = file_of(k, catalogo, ob_pun, ob_tex, ob_lin, tramo, vertice, nodo);
+    match target_of(k, f) {
+        Target::Free => Found::Nothing,
+        Target::Nowhere => first_present(own, k, f),
+        Target::To(other, g) => {
+            let to = file_of(
+                other,
+                catalogo,
+                ob_pun,
+                ob_tex,
+                ob_lin,
+                tramo,
+                vertice,
+                nodo,
+            );
+            first_dangling(own, k, f, to, other, g)
+        }
+    }
+}
+
+fn refers_to_catalogue(t: Target) -> bool
+    ensures { λ r. ⌜ r ≡ refersToCatalogue t ⌝ }
+{
+    match t {
+        Target::Free => false,
+        Target::Nowhere => false,
+        Target::To(other, _) => other.number() == Kind::Catalogo.number(),
+    }
+}
+
+// 41, of a code.
+fn first_41<'a>(
+    k: Kind,
+    f: usize,
+    catalogo: &'a [u8],
+    ob_pun: &'a [u8],
+    ob_tex: &'a [u8],
+    ob_lin: &'a [u8],
+    tramo: &'a [u8],
+    vertice: &'a [u8],
+    nodo: &'a [u8],
+) -> Found
+    ensures { λ r. ⌜ r ≡ foundOf (firstIndex (λ i. breaks41 (deliveryOf (filesOf (now (catalogo .entry)) (now («ob_pun» .entry)) (now («ob_tex» .entry)) (now («ob_lin» .entry)) (now (tramo .entry)) (now (vertice .entry)) (now (nodo .entry)))) k i f) ((deliveryOf (filesOf (now (catalogo .entry)) (now («ob_pun» .entry)) (now («ob_tex» .entry)) (now («ob_lin» .entry)) (now (tramo .entry)) (now (vertice .entry)) (now (nodo .entry)))) k .count)) ⌝ }
+{
+    if refers_to_catalogue(target_of(k, f)) {
+        let own = file_of(k, catalogo, ob_pun, ob_tex, ob_lin, tramo, vertice, nodo);
+        first_mistyped(own, k, f, catalogo, type_of(k))
+    } else {
+        Found::Nothing
+    }
+}
+
+// The first record of file k that breaks the reason 10 t + u at field f.
+fn first_in<'a>(
+    t: usize,
+    k: Kind,
+    f: usize,
+    u: usize,
+    catalogo: &'a [u8],
+    ob_pun: &'a [u8],
+    ob_tex: &'a [u8],
+    ob_lin: &'a [u8],
+    tramo: &'a [u8],
+    vertice: &'a [u8],
+    nodo: &'a [u8],
+) -> Found
+    ensures { λ r. ⌜ r ≡ foundOf (firstIndex (λ i. getD (keyTests t (deliveryOf (filesOf (now (catalogo .entry)) (now («ob_pun» .entry)) (now («ob_tex» .entry)) (now («ob_lin» .entry)) (now (tramo .entry)) (now (vertice .entry)) (now (nodo .entry)))) k i f) u false) ((deliveryOf (filesOf (now (catalogo .entry)) (now («ob_pun» .entry)) (now («ob_tex» .entry)) (now («ob_lin» .entry)) (now (tramo .entry)) (now (vertice .entry)) (now (nodo .entry)))) k .count)) ⌝ }
+{
+    if t == 3 {
+        if u == 0 {
+            return first_30(k, f, catalogo, ob_pun, ob_tex, ob_lin, tramo, vertice, nodo);
+        }
+        return Found::Nothing;
+    }
+    if t == 4 {
+        if u == 0 {
+            return first_40(k, f, catalogo, ob_pun, ob_tex, ob_lin, tramo, vertice, nodo);
+        }
+        if u == 1 {
+            return first_41(k, f, catalogo, ob_pun, ob_tex, ob_lin, tramo, vertice, nodo);
+        }
+    }
+    Found::Nothing
+}
+
+// The first of n records whose key is x, counted from 0; 0 where there is none.
+fn first_with_key(s: &[u8], k: Kind, n: usize, x: u64) -> usize
+    ensures { λ r. ⌜ r ≡ firstNamed (keyOf k (tableOf (now (s .entry)) k)) n x ⌝ }
+{
+    let mut j = 0;
+    while j < n {
+        if record_key(s, k, j) == x {
+            return j;
+        }
+        j += 1;
+    }
+    0
+}
+
+// The reason 10 t + u with its data, for record i and field f of file k.
+fn reason_in<'a>(
+    t: usize,
+    k: Kind,
+    i: usize,
+    f: usize,
+    u: usize,
+    catalogo: &'a [u8],
+    ob_pun: &'a [u8],
+    ob_tex: &'a [u8],
+    ob_lin: &'a [u8],
+    tramo: &'a [u8],
+    vertice: &'a [u8],
+    nodo: &'a [u8],
+) -> Reason
+    requires { ⌜ i < 16384 ⌝ }
+    ensures { λ r. ⌜ r ≡ getD (keyReasons t (deliveryOf (filesOf (now (catalogo .entry)) (now («ob_pun» .entry)) (now («ob_tex» .entry)) (now («ob_lin» .entry)) (now (tramo .entry)) (now (vertice .entry)) (now (nodo .entry)))) k i f) u Reason.LongFile10 ⌝ }
+{
+    let own = file_of(k, catalogo, ob_pun, ob_tex, ob_lin, tramo, vertice, nodo);
+    if t == 3 {
+        if u == 0 {
+            return Reason::SameKey30(first_with_key(own, k, i, record_key(own, k, i)) + 1);
+        }
+        return Reason::LongFile10;
+    }
+    if t == 4 {
+        if u == 0 {
+            return Reason::NoRecord40;
+        }
+        if u == 1 {
+            let n = rows(catalogo, Kind::Catalogo);
+            let j = first_with_key(catalogo, Kind::Catalogo, n, name(own, k, i, f));
+            return Reason::OtherType41(letter(catalogo, Kind::Catalogo, j, 2));
+        }
+    }
+    Reason::LongFile10
+}
+
+// The first break of the ten t in file k.
+pub fn check_file<'a>(
+    t: usize,
+    k: Kind,
+    catalogo: &'a [u8],
+    ob_pun: &'a [u8],
+    ob_tex: &'a [u8],
+    ob_lin: &'a [u8],
+    tramo: &'a [u8],
+    vertice: &'a [u8],
+    nodo: &'a [u8],
+) -> Finding
+    ensures { λ r. ⌜ r ≡ keysIn t (deliveryOf (filesOf (now (catalogo .entry)) (now («ob_pun» .entry)) (now («ob_tex» .entry)) (now («ob_lin» .entry)) (now (tramo .entry)) (now (vertice .entry)) (now (nodo .entry)))) k ⌝ }
+{
+    let n = (k.fields() + 1) * 10;
+    let mut best = Best {
+        found: false,
+        at: 0,
+        cell: 0,
+    };
+    let mut c = 0;
+    while c < n {
+        let found = first_in(
+            t,
+            k,
+            c / 10,
+            c % 10,
+            catalogo,
+            ob_pun,
+            ob_tex,
+            ob_lin,
+            tramo,
+            vertice,
+            nodo,
+        );
+        best = better(best, found, c);
+        c += 1;
+    }
+    if best.found {
+        let i = best.at;
+        let f = best.cell / 10;
+        let u = best.cell % 10;
+        let reason = reason_in(
+            t,
+            k,
+            i,
+            f,
+            u,
+            catalogo,
+            ob_pun,
+            ob_tex,
+            ob_lin,
+            tramo,
+            vertice,
+            nodo,
+        );
+        Finding::Broken(break_of(reason, k, i + 1, f))
+    } else {
+        Finding::Fine
+    }
+}
+
+// What a file number's kind gives, and nothing where there is none.
+fn check_which<'a>(
+    t: usize,
+    which: Which,
+    catalogo: &'a [u8],
+    ob_pun: &'a [u8],
+    ob_tex: &'a [u8],
+    ob_lin: &'a [u8],
+    tramo: &'a [u8],
+    vertice: &'a [u8],
+    nodo: &'a [u8],
+) -> Finding
+    ensures { λ r. ⌜ r ≡ atFile (keysIn t (deliveryOf (filesOf (now (catalogo .entry)) (now («ob_pun» .entry)) (now («ob_tex» .entry)) (now («ob_lin» .entry)) (now (tramo .entry)) (now (vertice .entry)) (now (nodo .entry))))) which ⌝ }
+{
+    match which {
+        Which::NoFile => Finding::Fine,
+        Which::File(k) => check_file(t, k, catalogo, ob_pun, ob_tex, ob_lin, tramo, vertice, nodo),
+    }
+}
+
+// The first break of the ten t, 3 or 4, in a delivery.
+pub fn check_keys<'a>(
+    t: usize,
+    catalogo: &'a [u8],
+    ob_pun: &'a [u8],
+    ob_tex: &'a [u8],
+    ob_lin: &'a [u8],
+    tramo: &'a [u8],
+    vertice: &'a [u8],
+    nodo: &'a [u8],
+) -> Finding
+    ensures { λ r. ⌜ r ≡ keysFinding t (deliveryOf (filesOf (now (catalogo .entry)) (now («ob_pun» .entry)) (now («ob_tex» .entry)) (now («ob_lin» .entry)) (now (tramo .entry)) (now (vertice .entry)) (now (nodo .entry)))) ⌝ }
+{
+    let mut n = 0;
+    while n < 8 {
+        let v = check_which(
+            t,
+            kind_of(n),
+            catalogo,
+            ob_pun,
+            ob_tex,
+            ob_lin,
+            tramo,
+            vertice,
+            nodo,
+        );
+        if v.is_fine() {
+            n += 1;
+        } else {
+            return v;
+        }
+    }
+    Finding::Fine
+}
