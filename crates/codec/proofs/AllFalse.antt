@@ -79,12 +79,12 @@ module _ (n : ℕ) (tests : ℕ → List Bool) (reasons : List Reason) (k : Kind
           there = rw back m;
           holds = rw back here;
           least = λ x g a b held earlier.
-            ⊎-elim
-            (λ lt. true-false (sym held ∙ none-past past g (x - base) lt))
-            (λ e.
-            let lt = before-one x (base + u) (e .1) in
-            true-false (sym held ∙ rw (e .0) (hit-none _ _ (none-at _ u before-here (omega arith)))))
-            (before-split g f (x ∷ []) ((base + u) ∷ []) earlier);
+              ⊎-elim
+              (λ lt. true-false (sym held ∙ none-past past g (x - base) lt))
+              (λ e.
+              let lt = before-one x (base + u) (e .1) in
+              true-false (sym held ∙ rw (e .0) (hit-none _ _ (none-at _ u before-here (omega arith)))))
+              (before-split g f (x ∷ []) ((base + u) ∷ []) earlier);
         }
 
     pub place-first :

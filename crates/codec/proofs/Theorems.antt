@@ -169,7 +169,7 @@ writing-refuses-first file v room a after w = (
   λ k e. (
     calls.wrote-short file k e v room a after w,
     λ l reason field d.
-    let h = calls.wrote-refused file k e v room a after w l reason field d in
-    (h .from, omega (arith, h .from, h .there), h .within, h .holds, h .least),
+        let h = calls.wrote-refused file k e v room a after w l reason field d in
+        (h .from, omega (arith, h .from, h .there), h .within, h .holds, h .least),
   ),
 )

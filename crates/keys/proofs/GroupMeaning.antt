@@ -13,6 +13,7 @@ use lib.ListN.{getD}
 use borrow.Author.Tests.{ltb-true, leb-true, le-leb, eqb-true, not-false}
 use Rattle.laws.specs.Find.{firstOf, firstIndex, any}
 use Rattle.laws.specs.Nest.{before}
+use Rattle.laws.proofs.NestLaws.{before-split}
 use Rattle.laws.proofs.FindLaws.{true-false, some-none, none-at, some-at, any-no}
 use Rattle.laws.proofs.RowLaws.{and-true, true-and}
 use Rattle.record.specs.declared.kind.Kind.{Kind}
@@ -33,18 +34,6 @@ use Rattle.keys.specs.Groups.{Tests, Reasons, cellsOf, groupFinding, bro
 use Rattle.keys.specs.Findings.{keysIn, keysBroken}
 use Rattle.keys.proofs.CellLaws.{Clear, Least, firstCell, none-cells, some-cells, cellTest, cellAnswer, group-is}
 
--- THE ORDER: where a record, a field and a reason of the ten stand before others, so do their record and cell
-before-first : (x y : ℕ) (p q : List ℕ) → before (x ∷ p) (y ∷ q) ≡ true → (x < y) ⊎ ((x ≡ y) × (before p q ≡ true))
-unfolding before
-before-first x y p q e = go (ltb x y) refl (eqb x y) refl e
-  where
-    go :
-        (l : Bool) → ltb x y ≡ l → (s : Bool) → eqb x y ≡ s
-        → elim l [ true ↦ true | false ↦ elim s [ true ↦ before p q | false ↦ false ] ] ≡ true → (x < y) ⊎ ((x ≡ y) × (before p q ≡ true))
-    go true hl s hs e = inl (ltb-true x y hl)
-    go false hl true hs e = inr (eqb-true x y hs, e)
-    go false hl false hs e = absurd (true-false (sym e))
-
 before-none : before [] [] ≡ true → ⊥
 unfolding before
 before-none e = true-false (sym e)
@@ -54,8 +43,8 @@ cell-before : (f n f' n' : ℕ) → n / 10 ≡ n' / 10 → before (f ∷ n ∷ [
 cell-before f n f' n' e l =
     ⊎-elim
     (λ h. omega arith)
-    (λ h. ⊎-elim (λ u. omega (arith, h .0)) (λ u. absurd (before-none (u .1))) (before-first n n' [] [] (h .1)))
-    (before-first f f' (n ∷ []) (n' ∷ []) l)
+    (λ h. ⊎-elim (λ u. omega (arith, h .0)) (λ u. absurd (before-none (u .1))) (before-split n n' [] [] (h .1)))
+    (before-split f f' (n ∷ []) (n' ∷ []) l)
 
 -- A GROUP: each reason whose test holds has its number in the ten t
 module _ (t : ℕ) (tests : ℕ → Tests) (reasons : Reasons) (k : Kind) (m : ℕ) where
@@ -120,7 +109,7 @@ module _ (t : ℕ) (tests : ℕ → Tests) (reasons : Reasons) (k : Kind) (m : �
           let x : i' - 1 ≡ i = omega (arith, h .0) in
           let y = cell-before f' n (c / 10) number (omega arith) (h .1) in
           true-false (sym (rw x at (w .3)) ∙ s .left (f' * 10 + n % 10) (omega arith)))
-          (before-first i' (i + 1) (f' ∷ n ∷ []) ((c / 10) ∷ number ∷ []) l)
+          (before-split i' (i + 1) (f' ∷ n ∷ []) ((c / 10) ∷ number ∷ []) l)
 
   pub group-means : Numbered → MeansBy (brokenBy tests k m) t k (groupFinding (tests t) reasons k m)
   group-means numbered = rw group-is (go (firstCell (cellTest (tests t)) (cellAnswer reasons k) m (cellsOf k)) refl)

@@ -41,7 +41,7 @@ slice-relend-prefix-put-text : tie.Need-slice-relend-prefix-put-text
 slice-relend-prefix-put-text c = search needs
 
 slice-aggregate-put-text : tie.Need-slice-aggregate-put-text
-slice-aggregate-put-text c = front-length (c .before .before .before .before .before .before .before .before .length .result) (c .before .before .before .before .before .before .before .before .before .before .args .room .now) (c .before .before .before .before .before .before .before .if1 .left)
+slice-aggregate-put-text c = front-length _ (c .before .before .before .before .before .before .before .before .before .before .args .room .now) (omega (arith, c .before .before .before .before .before .before .before .if1 .left))
 
 slice-aggregate-put-text-2 : tie.Need-slice-aggregate-put-text-2
 slice-aggregate-put-text-2 c =

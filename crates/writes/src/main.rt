@@ -1,0 +1,318 @@
+// Makes the writing call's cases of document 01, "Single-record calls add", and three of the reading call's, and prints a line for
+// each: the case, the answer, and what became of the room, which is filled with byte AA before the call.
+use codec::read::read;
+use codec::values::Answer;
+use codec::values::Value;
+use codec::values::Values;
+use codec::values::coordinate_value;
+use codec::values::missing_value;
+use codec::values::number_value;
+use codec::values::text_value;
+use codec::write::write;
+use libc::STDOUT_FILENO;
+use record::cut::part;
+use record::reason::Reason;
+
+fn say(t: &[u8]) {
+    io::write_all(STDOUT_FILENO, t);
+}
+
+fn say_two(n: usize) {
+    let mut t = [0u8; 2];
+    field::number::put_number(&mut t, n as u64);
+    say(&t);
+}
+
+fn say_refusal(reason: Reason, field: usize) {
+    say(b" NO ");
+    say_two(reason.number() as usize);
+    say(b" ");
+    say_two(field);
+}
+
+// Whether every byte is the one with which a room is filled.
+fn untouched(t: &[u8]) -> bool {
+    let mut i = 0;
+    while i < t.len() {
+        if t[i] != 170 {
+            return false;
+        }
+        i += 1;
+    }
+    true
+}
+
+fn say_kept(t: &[u8]) {
+    if untouched(t) {
+        say(b" kept\n");
+    } else {
+        say(b" touched\n");
+    }
+}
+
+// A record's bytes; its end is shown in letters.
+fn say_record(room: &[u8], text: usize) {
+    say(b" ");
+    say(part(room, 0, text));
+    if field::class::byte(part(room, text, 1), 0) == 13 {
+        say(b"\\r");
+    }
+    if field::class::byte(part(room, text, 2), 1) == 10 {
+        say(b"\\n");
+    }
+}
+
+// Document 01's record bytes without the two at the end.
+fn text_bytes(file: usize) -> usize {
+    match file {
+        1 => 131,
+        2 => 147,
+        3 => 142,
+        4 => 126,
+        5 => 75,
+        6 => 52,
+        7 => 48,
+        _ => 0,
+    }
+}
+
+fn past(room: &[u8], text: usize) -> &[u8] {
+    part(part(room, text, 160), 2, 160)
+}
+
+// Writes into the first bytes of a room, as many as are lent.
+fn write_first(file: usize, v: Values, room: &mut [u8], lent: usize) -> Answer {
+    if lent <= room.len() {
+        write(file, v, &mut room[..lent])
+    } else {
+        write(file, v, room)
+    }
+}
+
+// Writes into a room of 160 bytes, of which the first are lent, and prints the answer.
+fn tell(file: usize, v: Values, lent: usize, shown: bool) {
+    let text = text_bytes(file);
+    let mut room = [170u8; 160];
+    let answer = write_first(file, v, &mut room, lent);
+    match answer {
+        Answer::Refused(reason, field) => {
+            say_refusal(reason, field);
+            say_kept(&room);
+        }
+        Answer::Done => {
+            say(b" OK");
+            if shown {
+                say_record(&room, text);
+            }
+            say(b" rest");
+            say_kept(past(&room, text));
+        }
+    }
+}
+
+// A case of one file's values in a room with bytes to spare.
+fn case(label: &[u8], file: usize, v: Values) {
+    say(label);
+    tell(file, v, 160, false);
+}
+
+// The same, and the record is shown.
+fn show(label: &[u8], file: usize, v: Values) {
+    say(label);
+    tell(file, v, 160, true);
+}
+
+// A node in a room of so many bytes.
+fn room(label: &[u8], v: Values, lent: usize) {
+    say(label);
+    tell(7, v, lent, false);
+}
+
+fn none() -> Values {
+    Values {
+        at: [missing_value(); 14],
+    }
+}
+
+// The values with another one at a field.
+fn set(v: Values, f: usize, x: Value) -> Values {
+    let mut at = v.at;
+    if 0 < f {
+        if f < 15 {
+            at[f - 1] = x;
+        }
+    }
+    Values { at }
+}
+
+fn number(v: Values, f: usize, n: u64) -> Values {
+    set(v, f, number_value(n))
+}
+
+fn coordinate(v: Values, f: usize, z: i64) -> Values {
+    set(v, f, coordinate_value(z))
+}
+
+fn text(v: Values, f: usize, t: &[u8]) -> Values {
+    set(v, f, text_value(t))
+}
+
+fn no(v: Values, f: usize) -> Values {
+    set(v, f, missing_value())
+}
+
+fn node(x: i64, y: i64) -> Values {
+    coordinate(coordinate(number(none(), 1, 1), 4, x), 6, y)
+}
+
+fn nodes() {
+    let v = node(100, 200);
+    show(b"node X 999999999", 7, node(999999999, 200));
+    case(b"node X 1000000000", 7, node(1000000000, 200));
+    case(b"node X least", 7, node(-9223372036854775808, 200));
+    show(b"node Y -9999999999", 7, node(100, -9999999999));
+    case(b"node Y -10000000000", 7, node(100, -10000000000));
+    show(b"node at zero", 7, coordinate(node(0, 0), 8, 0));
+    case(b"node id missing", 7, no(v, 1));
+    show(b"node id 0", 7, number(v, 1, 0));
+    case(b"node X missing", 7, no(v, 4));
+    case(b"node nothing given", 7, none());
+}
+
+fn files() {
+    let v = node(100, 200);
+    case(b"file 0", 0, v);
+    case(b"file 8", 8, v);
+    show(b"file 7", 7, v);
+    say(b"file 8 room of 0");
+    tell(8, v, 0, false);
+    room(b"room of 49", v, 49);
+    room(b"room of 49 id missing", no(v, 1), 49);
+    room(b"room of 50", v, 50);
+    room(b"room of 60", v, 60);
+}
+
+fn line(code: &[u8], name: &[u8]) -> Values {
+    text(text(number(none(), 1, 1), 3, code), 4, name)
+}
+
+fn named(name: &[u8]) -> Values {
+    line(b"0100000", name)
+}
+
+fn names() {
+    case(
+        b"name of 61",
+        4,
+        named(b"abcdefghijklmnopqrstuvwxyz0123456789ABCDEFGHIJKLMNOPQRSTUVWXY"),
+    );
+    show(
+        b"name of 60",
+        4,
+        named(b"abcdefghijklmnopqrstuvwxyz0123456789ABCDEFGHIJKLMNOPQRSTUVWX"),
+    );
+    case(b"name blank first", 4, named(b" A"));
+    case(b"name blank last", 4, named(b"A "));
+    case(b"name of blanks", 4, named(b"  "));
+    case(b"name with 7F", 4, named(b"A\x7FB"));
+    show(b"name with a bar", 4, named(b"A|B"));
+    case(b"name with A0", 4, named(b"A\xA0B"));
+    show(b"name missing", 4, named(b""));
+    show(b"name NA", 4, named(b"NA"));
+}
+
+fn codes() {
+    case(b"code missing", 4, line(b"", b"a"));
+    case(b"code NA", 4, line(b"NA", b"a"));
+    case(b"code ND", 4, line(b"ND", b"a"));
+    show(b"code na", 4, line(b"na", b"a"));
+}
+
+fn centroids() {
+    let v = named(b"a");
+    case(b"centroid only Y", 4, coordinate(v, 8, 200));
+    case(b"centroid wide Y no X", 4, coordinate(v, 8, 10000000000));
+    case(b"centroid only Z", 4, coordinate(v, 10, 5));
+    case(
+        b"centroid X and Z",
+        4,
+        coordinate(coordinate(v, 6, 100), 10, 5),
+    );
+    show(
+        b"centroid X and Y",
+        4,
+        coordinate(coordinate(v, 6, 100), 8, 200),
+    );
+}
+
+fn catalogued(tipo: &[u8]) -> Values {
+    text(text(none(), 1, b"0100001"), 2, tipo)
+}
+
+fn catalogue() {
+    case(b"catalogue TIPO Q", 1, catalogued(b"Q"));
+    case(b"catalogue TIPO missing", 1, catalogued(b""));
+    show(b"catalogue TIPO T", 1, catalogued(b"T"));
+}
+
+fn tramo(sense: &[u8]) -> Values {
+    let v = number(number(none(), 1, 1), 2, 1);
+    let v = number(number(v, 6, 1), 7, 2);
+    text(text(v, 5, b"0100001"), 8, sense)
+}
+
+fn tramos() {
+    case(b"tramo sense x", 5, tramo(b"x"));
+    show(b"tramo sense blank", 5, tramo(b""));
+    show(b"tramo sense -", 5, tramo(b"-"));
+}
+
+fn vertices() {
+    let v = node(100, 200);
+    case(b"vertex order 100000", 6, number(v, 2, 100000));
+    show(b"vertex order 99999", 6, number(v, 2, 99999));
+}
+
+fn texts() {
+    let v = text(text(number(none(), 1, 1), 3, b"0100002"), 4, b"a");
+    let v = coordinate(coordinate(number(v, 8, 3), 10, 100), 12, 200);
+    case(b"text height missing", 3, v);
+    show(b"text", 3, number(v, 5, 12));
+}
+
+fn points() {
+    let v = text(text(number(none(), 1, 1), 4, b"0100003"), 5, b"a");
+    let v = coordinate(coordinate(number(v, 3, 2), 9, 100), 11, 200);
+    show(b"point", 2, v);
+}
+
+fn say_reading(label: &[u8], n: usize) {
+    say(label);
+    let reading = read(
+        7,
+        b"0000000001| |+|000000100|+|0000000200| |        \r\n",
+        n,
+    );
+    let answer = reading.answer;
+    match answer {
+        Answer::Refused(reason, field) => say_refusal(reason, field),
+        Answer::Done => say(b" OK"),
+    }
+    say(b"\n");
+}
+
+fn main() {
+    nodes();
+    files();
+    names();
+    codes();
+    centroids();
+    catalogue();
+    tramos();
+    vertices();
+    texts();
+    points();
+    say_reading(b"read record 0", 0);
+    say_reading(b"read record 2", 2);
+    say_reading(b"read record 1", 1);
+}
