@@ -1,0 +1,148 @@
+-- The laws of line ends (specs/Rules.antt, 52, 53, 55 and 59): the highest vertex of a line, and where an end or a point object
+-- meets its node.
+-- Assumes nothing.
+use Prim.Native.Nat.{ℕ, zero, suc, _<_, _≤_, _^_, max}
+use mathlib.Core.Bool.{Bool, true, false, not, _&&_}
+use mathlib.Core.List.{List, []}
+use mathlib.Core.Path.{_≡_, refl, sym, subst, ap, _∙_}
+use mathlib.Core.Logic.{_⊎_, ⊎-elim}
+use native.Mathlib.Nat.{max-le, le-max-left, le-max-right, le-trans, eq-or-lt-of-le, le-of-suc-le-suc}
+use native.Mathlib.Omega.{arith}
+use lib.Dec.{eqb}
+use lib.ListN.{getD}
+use borrow.Author.Tests.{eq-eqb, ne-eqb, eqb-true, eqb-false}
+use Rattle.laws.proofs.RowLaws.{picked}
+use Rattle.laws.specs.Find.{any, firstIndex}
+use Rattle.laws.proofs.FindLaws.{any-true, index-same}
+use Rattle.index.specs.Keys.{listed}
+use Rattle.index.specs.Look.{Sought, HighestIn}
+use Rattle.index.specs.declared.Found.{Found}
+use Rattle.index.specs.declared.Found.the-variants.{At, Nothing}
+use Rattle.index.proofs.LookLaws.{sought-record, sought-yes, sought-none}
+use Rattle.record.specs.declared.kind.Kind.the-variants.{ObPun, Tramo, Vertice, Nodo}
+use Rattle.record.specs.Table.{colAt, formAt, isN}
+use Rattle.keys.specs.Columns.{Fills}
+use Rattle.keys.specs.Delivery.{Delivery, filesOf, deliveryOf, nameAt}
+use Rattle.keys.proofs.ReferLaws.{names-column}
+use Rattle.topology.specs.declared.ends.End.{End}
+use Rattle.topology.specs.declared.ends.End.the-variants.{Start, Last}
+use Rattle.topology.specs.Ends.{nodeField, endKey, apart}
+use Rattle.topology.specs.Rules.{xAt, yAt, nodeIn, lineOf, vertex, highestIn, meets, elsewhere, startElsewhere, endElsewhere, pointElsewhere}
+
+here-or : (n : ℕ) {k : ℕ} → k < suc n → (k ≡ n) ⊎ (k < n)
+here-or n l = eq-or-lt-of-le (le-of-suc-le-suc l)
+
+-- what these three files say alone
+abbrev pub endFiles : List ℕ → List ℕ → List ℕ → Delivery
+endFiles tramo vertice nodo = deliveryOf (filesOf [] [] [] [] tramo vertice nodo)
+
+-- THE HIGHEST of a line: no key of the line is greater, and it is no greater than what is no less than each of them
+module _ (key : ℕ → ℕ) (line : ℕ) where
+  highest-most : (n m : ℕ) → ((k : ℕ) → k < n → lineOf (key k) ≡ line → key k ≤ m) → highestIn key line n ≤ m
+  unfolding highestIn
+  highest-most zero m all = omega arith
+  highest-most (suc n) m all =
+      let rest = highest-most n m (λ k l. all k (omega arith)) in
+      picked (λ h. h ≤ m) (eqb (lineOf (key n)) line) _ _ (λ e. max-le (all n (omega arith) (eqb-true _ _ e)) rest) (λ e. rest)
+
+  highest-least : (n : ℕ) {k : ℕ} → k < n → lineOf (key k) ≡ line → key k ≤ highestIn key line n
+  unfolding highestIn
+  highest-least zero l e = absurd (omega arith)
+  highest-least (suc n) {k} l e =
+      picked (λ h. key k ≤ h) (eqb (lineOf (key n)) line) (max (key n) (highestIn key line n)) (highestIn key line n)
+      (λ t. ⊎-elim (λ q. rw q (le-max-left _ _)) (λ u. le-trans (highest-least n u e) (le-max-right _ _)) (here-or n l))
+      (λ t. ⊎-elim (λ q. absurd (eqb-false (lineOf (key n)) line t (rw (← q) e))) (λ u. highest-least n u e) (here-or n l))
+
+-- it is what the index finds
+module _ (keys : List ℕ) (n line : ℕ) {f : Found} (h : HighestIn keys n line f) where
+  pub highest-below : {j : ℕ} → f ≡ At j → j < n
+  unfolding HighestIn
+  highest-below e = subst (λ (f : Found). HighestIn keys n line f) e h .0
+
+  pub highest-none : f ≡ Nothing → 0 ≡ highestIn (listed keys) line n
+  unfolding HighestIn
+  highest-none e =
+      let none = subst (λ (f : Found). HighestIn keys n line f) e h in
+      let low = highest-most (listed keys) line n 0 (λ k l t. absurd (none k l t)) in
+      omega arith
+
+  pub highest-found : {j : ℕ} → f ≡ At j → getD keys j 0 ≡ highestIn (listed keys) line n
+  unfolding HighestIn
+  highest-found e =
+      let at = subst (λ (f : Found). HighestIn keys n line f) e h in
+      let low = highest-most (listed keys) line n _ (at .2) in
+      let high = highest-least (listed keys) line n (at .0) (at .1) in
+      omega arith
+
+-- THE ARRAY of the keys as the column
+module _ {l : List ℕ} {key : ℕ → ℕ} {m n : ℕ} (fills : Fills l key m n) where
+  highest-same : (line i : ℕ) → i ≤ m → highestIn (listed l) line i ≡ highestIn key line i
+  unfolding highestIn
+  highest-same line zero u = refl
+  highest-same line (suc i) u = rw (fills .holds i (omega arith), highest-same line i (omega arith))
+
+  pub highest-column : (line : ℕ) → highestIn (listed l) line n ≡ highestIn key line m
+  highest-column line = rw (fills .count) (highest-same line m (omega arith))
+
+  pub endless-column : (line : ℕ → ℕ) (t : ℕ) → firstIndex (λ i. eqb (highestIn (listed l) (line i) n) 0) t ≡ firstIndex (λ i. eqb (highestIn key (line i) m) 0) t
+  endless-column line t = index-same _ _ t (λ i u. ap (λ (x : ℕ). eqb x 0) (highest-column (line i)))
+
+-- a tramo's line is a narrow number
+pub line-narrow : {r : ℕ} → (isN (formAt Tramo 4) ≡ true → isN (formAt Tramo 1) ≡ true → r ≤ 2 ^ 38) → r ≤ 2 ^ 38
+unfolding formAt colAt
+line-narrow h = h refl refl
+
+-- MEETING: vertex j has the key, and the node that has the name is there
+unfoldable pub meetsAt : Delivery → ℕ → ℕ → ℕ → Bool
+meetsAt d key name j = eqb (vertex d j) key && nodeIn (d Nodo) name (xAt Vertice (d Vertice) j) (yAt Vertice (d Vertice) j)
+
+pub meets-any : (d : Delivery) (key name : ℕ) {r : Bool} → r ≡ any (meetsAt d key name) (d Vertice .count) → r ≡ meets d key name
+unfolding meets meetsAt
+meets-any d key name e = e
+
+module _ (d : Delivery) (key name j : ℕ) where
+  pub meets-other : {v : ℕ} → v ≡ vertex d j → (v ≡ key → ⊥) → meetsAt d key name j ≡ false
+  unfolding meetsAt
+  meets-other e h = rw (← e, ne-eqb _ _ h)
+
+  pub meets-key :
+      {v x y : ℕ} {r : Bool} → v ≡ vertex d j → v ≡ key → x ≡ xAt Vertice (d Vertice) j → y ≡ yAt Vertice (d Vertice) j → r ≡ nodeIn (d Nodo) name x y
+      → meetsAt d key name j ≡ r
+  unfolding meetsAt
+  meets-key e h p q s = rw (← e, eq-eqb _ _ h, ← p, ← q, s)
+
+-- ELSEWHERE, where f is what a look-up of the vertex says
+module _ (d : Delivery) {keys : List ℕ} {n : ℕ} (fills : Fills keys (vertex d) (d Vertice .count) n) (key name : ℕ) {f : Found} (s : Sought keys n key f) where
+  pub elsewhere-none : f ≡ Nothing → false ≡ elsewhere d key name
+  elsewhere-none e = rw (← names-column fills key, ← sought-none keys n key s e)
+
+  pub elsewhere-found : {j : ℕ} {r : Bool} → f ≡ At j → r ≡ meets d key name → not r ≡ elsewhere d key name
+  elsewhere-found e h = rw (← names-column fills key, ← sought-yes keys n key s e, h)
+
+  pub elsewhere-met :
+      {j x y : ℕ} {r : Bool} → f ≡ At j → x ≡ xAt Vertice (d Vertice) j → y ≡ yAt Vertice (d Vertice) j → r ≡ nodeIn (d Nodo) name x y → r ≡ true
+      → false ≡ elsewhere d key name
+  elsewhere-met {j} e p q h t =
+      let at = sought-record keys n key s e in
+      let u : j < d Vertice .count = omega (arith, fills .count) in
+      elsewhere-found e (meets-any d key name (sym (any-true _ _ u (meets-key d key name j (fills .holds j u) (at .1) p q h ∙ t))))
+
+-- AN END of tramo i, from what the code reads of it
+pub apart-said :
+    (end : End) (d : Delivery) {keys : List ℕ} {n : ℕ} → Fills keys (vertex d) (d Vertice .count) n → (i : ℕ) {line key field name : ℕ} {r : Bool}
+    → line ≡ nameAt Tramo (d Tramo) i 4 → key ≡ endKey end (listed keys) n line → field ≡ nodeField end → name ≡ nameAt Tramo (d Tramo) i field
+    → r ≡ elsewhere d key name → apart end d i ≡ r
+unfolding startElsewhere endElsewhere
+apart-said Start d fills i a b c p h = rw (h, b, a, p, c)
+apart-said Last d fills i a b c p h = rw (h, b, a, p, c, highest-column fills _)
+
+-- A POINT OBJECT, from the name w that the code reads of it
+module _ (d : Delivery) (i : ℕ) {w : ℕ} (e : w ≡ nameAt ObPun (d ObPun) i 3) where
+  pub astray-free : w ≡ 0 → pointElsewhere d i ≡ false
+  unfolding pointElsewhere
+  astray-free h = rw (← e, eq-eqb _ _ h)
+
+  pub astray-named :
+      {x y : ℕ} {r : Bool} → (w ≡ 0 → ⊥) → x ≡ xAt ObPun (d ObPun) i → y ≡ yAt ObPun (d ObPun) i → r ≡ nodeIn (d Nodo) w x y → pointElsewhere d i ≡ not r
+  unfolding pointElsewhere
+  astray-named h p q s = rw (← e, ne-eqb _ _ h, ← p, ← q, s)

@@ -1,0 +1,7 @@
+pub mod PlaceLaws
+pub mod MarkLaws
+pub mod OrderRules
+pub mod EndLaws
+pub mod FiftyLaws
+pub mod Meaning
+pub mod Agree

@@ -1,0 +1,52 @@
+-- The laws of vertex numbering (specs/Rules.antt, 50 and 51): each rule by cases of the order, and a search over the array of the
+-- keys carried to the column that fills it.
+-- Assumes nothing.
+use Prim.Native.Nat.{ℕ, _+_, _-_, _<_, _≤_}
+use mathlib.Core.Bool.{Bool, true, false, not}
+use mathlib.Core.List.{List}
+use mathlib.Core.Path.{_≡_, ap, _∙_}
+use borrow.Author.Tests.{eq-eqb, ne-eqb, lt-ltb, le-ltb}
+use Rattle.laws.specs.Find.{firstIndex}
+use Rattle.laws.proofs.FindLaws.{index-same}
+use Rattle.index.specs.Keys.{listed, foundOf}
+use Rattle.index.specs.declared.Found.{Found}
+use Rattle.keys.specs.Columns.{Fills}
+use Rattle.keys.specs.Rules.{names}
+use Rattle.keys.proofs.ReferLaws.{names-column}
+use Rattle.topology.specs.Rules.{orderOf, gap, alone}
+
+module _ (key : ℕ → ℕ) (n i : ℕ) where
+  -- 50
+  pub gap-zero : orderOf (key i) ≡ 0 → true ≡ gap key n i
+  unfolding gap
+  gap-zero e = rw (eq-eqb (orderOf (key i)) 0 e)
+
+  pub gap-over : {r : Bool} → (orderOf (key i) ≡ 0 → ⊥) → 1 < orderOf (key i) → r ≡ names key n (key i - 1) → not r ≡ gap key n i
+  unfolding gap
+  gap-over d l e = rw (ne-eqb (orderOf (key i)) 0 d, lt-ltb 1 (orderOf (key i)) l, e)
+
+  pub gap-one : (orderOf (key i) ≡ 0 → ⊥) → orderOf (key i) ≤ 1 → false ≡ gap key n i
+  unfolding gap
+  gap-one d l = rw (ne-eqb (orderOf (key i)) 0 d, le-ltb 1 (orderOf (key i)) l)
+
+  -- 51
+  pub alone-one : {r : Bool} → orderOf (key i) ≡ 1 → r ≡ names key n (key i + 1) → not r ≡ alone key n i
+  unfolding alone
+  alone-one e q = rw (eq-eqb (orderOf (key i)) 1 e, q)
+
+  pub alone-other : (orderOf (key i) ≡ 1 → ⊥) → false ≡ alone key n i
+  unfolding alone
+  alone-other d = rw (ne-eqb (orderOf (key i)) 1 d)
+
+-- THE ARRAY as the column
+module _ {l : List ℕ} {key : ℕ → ℕ} {m n : ℕ} (fills : Fills l key m n) where
+  pub found-column : {r : Found} (p q : ℕ → Bool) → r ≡ foundOf (firstIndex p n) → ((i : ℕ) → i < m → p i ≡ q i) → r ≡ foundOf (firstIndex q m)
+  found-column p q e same = e ∙ rw (fills .count) (ap foundOf (index-same p q m same))
+
+  pub gap-column : (i : ℕ) → i < m → gap (listed l) n i ≡ gap key m i
+  unfolding gap
+  gap-column i u = rw (fills .holds i u, names-column fills (key i - 1))
+
+  pub alone-column : (i : ℕ) → i < m → alone (listed l) n i ≡ alone key m i
+  unfolding alone
+  alone-column i u = rw (fills .holds i u, names-column fills (key i + 1))

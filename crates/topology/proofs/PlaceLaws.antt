@@ -1,0 +1,102 @@
+-- The laws of look-ups that a scan backs: an index over a column of numbers tells whether a test holds of a record, where the records
+-- of which it holds have the number looked up. Equal places have equal numbers.
+-- Assumes nothing.
+use Prim.Native.Nat.{ℕ, _<_}
+use mathlib.Core.Bool.{Bool, true, false, not, _&&_}
+use mathlib.Core.List.{List}
+use mathlib.Core.Option.{Option, none, some}
+use mathlib.Core.Path.{_≡_, refl, sym, ap₂, _∙_}
+use native.Mathlib.Omega.{arith}
+use lib.Dec.{eqb}
+use borrow.Author.Tests.{eqb-true, eqb-false, eq-eqb}
+use Rattle.laws.specs.Find.{isSome, firstIndex, any}
+use Rattle.laws.proofs.FindLaws.{any-true, any-false, any-no}
+use Rattle.laws.proofs.RowLaws.{and-true}
+use Rattle.index.specs.Keys.{foundOf, listed, repeated}
+use Rattle.index.specs.Look.{Sought}
+use Rattle.index.specs.declared.Found.{Found}
+use Rattle.index.specs.declared.Found.the-variants.{At, Nothing}
+use Rattle.index.proofs.LookLaws.{sought-record, sought-none}
+use Rattle.index.proofs.TwiceLaws.{distinct-none, no-pair, duplicate-filled}
+use Rattle.record.specs.declared.kind.Kind.the-variants.{Nodo}
+use Rattle.record.specs.Says.{Table}
+use Rattle.keys.specs.Columns.{Fills}
+use Rattle.keys.proofs.ReferLaws.{names-column}
+use Rattle.topology.specs.Places.{positionOf, spotOf}
+use Rattle.topology.specs.Rules.{xAt, yAt, zAt, samePlace, placedBefore}
+
+-- A LOOK-UP of the number x in a column, f its answer
+module _ {l : List ℕ} {key : ℕ → ℕ} {m n : ℕ} (fills : Fills l key m n) (x : ℕ) {f : Found} (s : Sought l n x f) where
+  -- the record found: of the file, and it has the number
+  pub looked-at : {j : ℕ} → f ≡ At j → (j < m) × (key j ≡ x)
+  looked-at {j} e =
+      let r = sought-record l n x s e in
+      let u : j < m = omega (arith, fills .count) in
+      (u, sym (fills .holds j u) ∙ r .1)
+
+  -- where nothing is found none has it
+  looked-no : f ≡ Nothing → any (λ j. eqb (key j) x) m ≡ false
+  looked-no e = sym (names-column fills x) ∙ sym (sought-none l n x s e)
+
+  -- a test of the records
+  module _ (p : ℕ → Bool) where
+    pub looked-none : ((j : ℕ) → p j ≡ true → key j ≡ x) → f ≡ Nothing → false ≡ any p m
+    looked-none number e = sym (any-false p m (λ j u. go j (p j) refl (eqb-false (key j) x (any-no _ m (looked-no e) u))))
+      where
+        go : (j : ℕ) (t : Bool) → p j ≡ t → (key j ≡ x → ⊥) → t ≡ false
+        go j true q ne = absurd (ne (number j q))
+        go j false q ne = refl
+
+    pub looked-here : {j : ℕ} → f ≡ At j → p j ≡ true → true ≡ any p m
+    looked-here e h = sym (any-true p m (looked-at e .0) h)
+
+    -- and of those that have the number
+    pub named-none : f ≡ Nothing → false ≡ any (λ j. eqb (key j) x && p j) m
+    named-none e = sym (any-false _ m (λ j u. rw (any-no _ m (looked-no e) u)))
+
+    pub named-here : {j : ℕ} → f ≡ At j → p j ≡ true → true ≡ any (λ j. eqb (key j) x && p j) m
+    named-here {j} e h =
+        let r = looked-at e in
+        sym (any-true _ m (r .0) (rw (eq-eqb (key j) x (r .1)) h))
+
+-- EQUAL PLACES have equal positions
+pub same-position : (a b x y : ℕ) → (eqb a x && eqb b y) ≡ true → positionOf a b ≡ positionOf x y
+same-position a b x y e =
+    let h = and-true (eqb a x) (eqb b y) e in
+    ap₂ positionOf (eqb-true a x (h .0)) (eqb-true b y (h .1))
+
+-- A SEARCH'S ANSWER says whether there is one
+found-some : {j : ℕ} (o : Option ℕ) → foundOf o ≡ At j → isSome o ≡ true
+found-some none e = let z : _≡_ {A = ℕ} 0 1 = cc in absurd (omega arith)
+found-some (some k) e = refl
+
+found-none : (o : Option ℕ) → foundOf o ≡ Nothing → isSome o ≡ false
+found-none none e = refl
+found-none (some k) e = let z : _≡_ {A = ℕ} 0 1 = cc in absurd (omega arith)
+
+module _ (p : ℕ → Bool) (n : ℕ) {f : Found} (e : f ≡ foundOf (firstIndex p n)) where
+  pub any-of-found : {j : ℕ} → f ≡ At j → any p n ≡ true
+  unfolding any
+  any-of-found q = found-some (firstIndex p n) (sym e ∙ q)
+
+  pub any-of-nothing : f ≡ Nothing → any p n ≡ false
+  unfolding any
+  any-of-nothing q = found-none (firstIndex p n) (sym e ∙ q)
+
+-- NODES AT ONE PLACE have one spot; where no spot is repeated, none is at an earlier one's place
+abbrev pub spotAt : Table → ℕ → ℕ
+spotAt t i = spotOf (xAt Nodo t i) (yAt Nodo t i) (zAt Nodo t i)
+
+same-spot : (t : Table) (i j : ℕ) → samePlace t i j ≡ true → spotAt t j ≡ spotAt t i
+unfolding samePlace
+same-spot t i j e =
+    let h = and-true (eqb (xAt Nodo t j) (xAt Nodo t i)) _ e in
+    let g = and-true (eqb (yAt Nodo t j) (yAt Nodo t i)) _ (h .1) in
+    rw (eqb-true (xAt Nodo t j) (xAt Nodo t i) (h .0), eqb-true (yAt Nodo t j) (yAt Nodo t i) (g .0), eqb-true (zAt Nodo t j) (zAt Nodo t i) (g .1))
+
+pub spots-apart : (t : Table) {l : List ℕ} {n : ℕ} {r : Bool} → Fills l (spotAt t) (t .count) n → r ≡ not (repeated (listed l) n) → r ≡ true
+    → firstIndex (placedBefore t) (t .count) ≡ none
+unfolding placedBefore
+spots-apart t {l} {n} fills e h =
+    let one = rw (fills .count) at (distinct-none (listed l) n e h) in
+    no-pair (λ j i. samePlace t i j) (spotAt t) (t .count) (λ j i s. same-spot t i j s) (sym (duplicate-filled (spotAt t) l (t .count) (fills .holds)) ∙ one)

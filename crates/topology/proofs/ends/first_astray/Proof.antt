@@ -1,0 +1,48 @@
+-- `topology::ends::first_astray` meets its contract. The array holds the names, and the sort has room.
+-- Assumes nothing.
+use Rattle.index.proofs.OrderLaws.{sorts-room}
+use Rattle.keys.proofs.ReferLaws.{fills-room}
+use borrow.Author.Needs.{needs}
+use Rattle.topology.proofs.ends.first_astray.Statement.{statement}
+use Rattle.topology.proofs.ends.first_astray.Tie as tie
+
+fill-names-requires : tie.Need-fill-names-requires
+fill-names-requires c κs = search needs
+
+slice-aggregate-sort : tie.Need-slice-aggregate-sort
+slice-aggregate-sort c = search needs
+
+slice-aggregate-sort-2 : tie.Need-slice-aggregate-sort-2
+slice-aggregate-sort-2 c = search needs
+
+sort-requires : tie.Need-sort-requires
+sort-requires c κs = search needs
+
+slice-aggregate-first-astray-in : tie.Need-slice-aggregate-first-astray-in
+slice-aggregate-first-astray-in c = search needs
+
+slice-aggregate-first-astray-in-2 : tie.Need-slice-aggregate-first-astray-in-2
+slice-aggregate-first-astray-in-2 c = search needs
+
+first-astray-in-requires : tie.Need-first-astray-in-requires
+first-astray-in-requires c κs = (c .before .before .before .before .sort .ensures .index (c .before .before .if1 .taken), c .before .before .before .before .before .before .before .fill-names .ensures)
+
+returns : tie.Need-returns
+returns c = search needs
+
+returns-2 : tie.Need-returns-2
+returns-2 c = absurd (sorts-room (c .before .before .sort .ensures) (fills-room (c .before .before .before .before .before .fill-names .ensures)) (search needs) (c .if1 .left))
+
+pub first-astray-spec : {M : Type 1} → statement M
+first-astray-spec =
+    tie.close
+    (tie.spec
+    fill-names-requires
+    slice-aggregate-sort
+    slice-aggregate-sort-2
+    sort-requires
+    slice-aggregate-first-astray-in
+    slice-aggregate-first-astray-in-2
+    first-astray-in-requires
+    returns
+    returns-2)

@@ -1,0 +1,76 @@
+-- `topology::nodes::fill_spots` meets its contract. The spots of the nodes before i stand in the array.
+-- Assumes nothing.
+use Prim.Native.Nat.{_-_}
+use Rattle.record.specs.declared.kind.Kind.the-variants.{Nodo}
+use Rattle.record.specs.Says.{tableOf}
+use Rattle.keys.proofs.ColumnLaws.{Filling, filling-none, filling-more, filling-all}
+use Rattle.topology.proofs.PlaceLaws.{spotAt}
+use borrow.Author.Needs.{needs}
+use Rattle.topology.proofs.nodes.fill_spots.Statement.{statement}
+use Rattle.topology.proofs.nodes.fill_spots.Tie as tie
+
+abbrev Inv-loop : tie.InvT-loop
+Inv-loop nodo out₀ k n i₀ out i = Filling (spotAt (tableOf nodo Nodo)) n out i
+
+abbrev μ-loop : tie.MeasureT-loop
+μ-loop nodo out₀ k n i₀ out i = n - i
+
+rows-requires : tie.Need-rows-requires Inv-loop μ-loop
+rows-requires c κs = search needs
+
+loop-holds : tie.Need-loop-holds Inv-loop μ-loop
+loop-holds c = filling-none _ _ (c .before .before .pre)
+
+x-at-requires : tie.Need-x-at-requires Inv-loop μ-loop
+x-at-requires c κs = search needs
+
+y-at-requires : tie.Need-y-at-requires Inv-loop μ-loop
+y-at-requires c κs = search needs
+
+z-at-requires : tie.Need-z-at-requires Inv-loop μ-loop
+z-at-requires c κs = search needs
+
+spot-requires : tie.Need-spot-requires Inv-loop μ-loop
+spot-requires c κs = search needs
+
+mul-out : tie.Need-mul-out Inv-loop μ-loop
+mul-out c = search needs
+
+element-write-out : tie.Need-element-write-out Inv-loop μ-loop
+element-write-out c = search needs
+
+add-i : tie.Need-add-i Inv-loop μ-loop
+add-i c = search needs
+
+loop-less : tie.Need-loop-less Inv-loop μ-loop
+loop-less c = search needs
+
+loop-again : tie.Need-loop-again Inv-loop μ-loop
+loop-again c =
+    let d = c .before .before .before .before .before in
+    filling-more (d .loop .inv) (d .before .rows .ensures .1) (c .before .before .before .before .loop-test .taken)
+    (rw (← c .before .z-at .ensures .0, ← c .before .before .y-at .ensures .0, ← c .before .before .before .x-at .ensures .0) (c .spot .ensures))
+
+returns : tie.Need-returns Inv-loop μ-loop
+returns c =
+    let d = c .before in
+    filling-all (d .loop .inv) (d .before .rows .ensures .1) (c .loop-test .left) (d .before .rows .ensures .0)
+
+pub fill-spots-spec : {M : Type 1} → statement M
+fill-spots-spec =
+    tie.close
+    (tie.spec
+    Inv-loop
+    μ-loop
+    rows-requires
+    loop-holds
+    x-at-requires
+    y-at-requires
+    z-at-requires
+    spot-requires
+    mul-out
+    element-write-out
+    add-i
+    loop-less
+    loop-again
+    returns)

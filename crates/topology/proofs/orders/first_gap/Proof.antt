@@ -1,0 +1,49 @@
+-- `topology::orders::first_gap` meets its contract. The array holds the keys, and the sort has room.
+-- Assumes nothing.
+use Rattle.index.proofs.OrderLaws.{sorts-room}
+use Rattle.keys.proofs.ReferLaws.{fills-room}
+use Rattle.topology.proofs.OrderRules.{found-column, gap-column}
+use borrow.Author.Needs.{needs}
+use Rattle.topology.proofs.orders.first_gap.Statement.{statement}
+use Rattle.topology.proofs.orders.first_gap.Tie as tie
+
+fill-keys-requires : tie.Need-fill-keys-requires
+fill-keys-requires c κs = search needs
+
+slice-aggregate-sort : tie.Need-slice-aggregate-sort
+slice-aggregate-sort c = search needs
+
+slice-aggregate-sort-2 : tie.Need-slice-aggregate-sort-2
+slice-aggregate-sort-2 c = search needs
+
+sort-requires : tie.Need-sort-requires
+sort-requires c κs = search needs
+
+slice-aggregate-first-gap-in : tie.Need-slice-aggregate-first-gap-in
+slice-aggregate-first-gap-in c = search needs
+
+slice-aggregate-first-gap-in-2 : tie.Need-slice-aggregate-first-gap-in-2
+slice-aggregate-first-gap-in-2 c = search needs
+
+first-gap-in-requires : tie.Need-first-gap-in-requires
+first-gap-in-requires c κs = c .before .before .before .before .sort .ensures .index (c .before .before .if1 .taken)
+
+returns : tie.Need-returns
+returns c = found-column (c .before .before .before .before .before .before .before .before .fill-keys .ensures) _ _ (c .first-gap-in .ensures) (gap-column (c .before .before .before .before .before .before .before .before .fill-keys .ensures))
+
+returns-2 : tie.Need-returns-2
+returns-2 c = absurd (sorts-room (c .before .before .sort .ensures) (fills-room (c .before .before .before .before .before .fill-keys .ensures)) (search needs) (c .if1 .left))
+
+pub first-gap-spec : {M : Type 1} → statement M
+first-gap-spec =
+    tie.close
+    (tie.spec
+    fill-keys-requires
+    slice-aggregate-sort
+    slice-aggregate-sort-2
+    sort-requires
+    slice-aggregate-first-gap-in
+    slice-aggregate-first-gap-in-2
+    first-gap-in-requires
+    returns
+    returns-2)

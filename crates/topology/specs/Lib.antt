@@ -1,0 +1,4 @@
+pub mod Rules
+pub mod Ends
+pub mod Places
+pub mod Findings

@@ -1,0 +1,28 @@
+-- Places as numbers that an index can hold: equal places have equal numbers.
+-- Assumes nothing.
+use Prim.Native.Nat.{ℕ, _+_, _*_, _%_, _<_}
+use mathlib.Core.Bool.{Bool, not, _&&_}
+use mathlib.Core.List.{List}
+use mathlib.Core.Path.{_≡_}
+use lib.Dec.{eqb}
+use lib.ListN.{length, getD}
+use Rattle.index.specs.declared.Found.{Found}
+use Rattle.index.specs.declared.Found.the-variants.{At, Nothing}
+
+-- X and Y
+unfoldable pub positionOf : ℕ → ℕ → ℕ
+positionOf x y = x % 536870912 * 34359738368 + y % 34359738368
+
+-- X, Y and Z
+unfoldable pub spotOf : ℕ → ℕ → ℕ → ℕ
+spotOf x y z = x % 2097152 * 8796093022208 + y % 33554432 * 262144 + z % 262144
+
+-- MARKS: after, each of the first n is 0 where it was 0 and the test does not hold, and no other is; the array keeps its length
+pub record Marks (before after : List ℕ) (test : ℕ → Bool) (n : ℕ) : Type 0 where
+  pub long : length after ≡ length before
+  pub marked : (i : ℕ) → i < n → eqb (getD after i 0) 0 ≡ (eqb (getD before i 0) 0 && not (test i))
+
+-- a found index, and 0 where there is none
+abbrev pub orIndex : Found → ℕ
+orIndex Nothing = 0
+orIndex (At j) = j

@@ -1,0 +1,205 @@
+// The first break of the fifties in a file and in a delivery, by cells as keys has it.
+use crate::ends::End;
+use crate::ends::first_astray;
+use crate::ends::first_elsewhere;
+use crate::ends::first_endless;
+use crate::nodes::first_idle_node;
+use crate::nodes::first_idle_object;
+use crate::nodes::first_repeat_place;
+use crate::nodes::place_before;
+use crate::orders::first_alone;
+use crate::orders::first_gap;
+use index::Found;
+use keys::group::Best;
+use keys::group::better;
+use record::check::break_of;
+use record::kind::Kind;
+use record::kind::Which;
+use record::kind::kind_of;
+use record::reason::Finding;
+use record::reason::Reason;
+ghost use mathlib.Core.Path.{_≡_};
+ghost use mathlib.Core.Bool.{false, _&&_};
+ghost use mathlib.Core.List.{List, []};
+ghost use Prim.Native.Nat.{ℕ, _≤_, _<_};
+ghost use lib.ListN.{getD};
+ghost use Rattle.laws.specs.Find.{firstIndex};
+ghost use Rattle.index.specs.Keys.{foundOf};
+ghost use Rattle.topology.specs.Places.{orIndex};
+ghost use Rattle.keys.specs.Delivery.{filesOf, deliveryOf};
+ghost use Rattle.keys.specs.Groups.{atFile};
+ghost use Rattle.topology.specs.Rules.{isAt, fifties, fiftyReasons};
+ghost use Rattle.topology.specs.Findings.{topologyIn, topologyFinding};
+
+// Whether a rule of this file and field is read of file k at field f.
+fn is_at(file: Kind, field: usize, k: Kind, f: usize) -> bool
+    ensures { λ r. ⌜ r ≡ isAt file field k f ⌝ }
+{
+    (k.number() == file.number()) & (f == field)
+}
+
+// 50 and 51, at VERTICE field 2.
+fn first_in_vertice<'a>(u: usize, vertice: &'a [u8]) -> Found
+    ensures { λ r. ⌜ r ≡ foundOf (firstIndex (λ i. getD (fifties (deliveryOf (filesOf [] [] [] [] [] (now (vertice .entry)) [])) Kind.Vertice i 2) u false) (deliveryOf (filesOf [] [] [] [] [] (now (vertice .entry)) []) Kind.Vertice .count)) ⌝ }
+{
+    match u {
+        0 => first_gap(vertice),
+        1 => first_alone(vertice),
+        _ => Found::Nothing,
+    }
+}
+
+// 54 and 56, at NODO field 0.
+fn first_in_nodo<'a>(
+    u: usize,
+    ob_pun: &'a [u8],
+    tramo: &'a [u8],
+    vertice: &'a [u8],
+    nodo: &'a [u8],
+) -> Found
+    ensures { λ r. ⌜ r ≡ foundOf (firstIndex (λ i. getD (fifties (deliveryOf (filesOf [] (now («ob_pun» .entry)) [] [] (now (tramo .entry)) (now (vertice .entry)) (now (nodo .entry)))) Kind.Nodo i 0) u false) (deliveryOf (filesOf [] (now («ob_pun» .entry)) [] [] (now (tramo .entry)) (now (vertice .entry)) (now (nodo .entry))) Kind.Nodo .count)) ⌝ }
+{
+    match u {
+        4 => first_repeat_place(nodo),
+        6 => first_idle_node(ob_pun, tramo, vertice, nodo),
+        _ => Found::Nothing,
+    }
+}
+
+// The first record of file k that breaks the reason 50 + u at field f.
+fn first_in<'a>(
+    k: Kind,
+    f: usize,
+    u: usize,
+    ob_pun: &'a [u8],
+    ob_lin: &'a [u8],
+    tramo: &'a [u8],
+    vertice: &'a [u8],
+    nodo: &'a [u8],
+) -> Found
+    ensures { λ r. ⌜ r ≡ foundOf (firstIndex (λ i. getD (fifties (deliveryOf (filesOf [] (now («ob_pun» .entry)) [] (now («ob_lin» .entry)) (now (tramo .entry)) (now (vertice .entry)) (now (nodo .entry)))) k i f) u false) ((deliveryOf (filesOf [] (now («ob_pun» .entry)) [] (now («ob_lin» .entry)) (now (tramo .entry)) (now (vertice .entry)) (now (nodo .entry)))) k .count)) ⌝ }
+{
+    if is_at(Kind::Vertice, 2, k, f) {
+        return first_in_vertice(u, vertice);
+    }
+    if is_at(Kind::Nodo, 0, k, f) {
+        return first_in_nodo(u, ob_pun, tramo, vertice, nodo);
+    }
+    if is_at(Kind::Tramo, 6, k, f) & (u == 2) {
+        return first_elsewhere(End::Start, tramo, vertice, nodo);
+    }
+    if is_at(Kind::Tramo, 7, k, f) & (u == 3) {
+        return first_elsewhere(End::Last, tramo, vertice, nodo);
+    }
+    if is_at(Kind::ObPun, 3, k, f) & (u == 5) {
+        return first_astray(ob_pun, nodo);
+    }
+    if is_at(Kind::ObLin, 0, k, f) & (u == 7) {
+        return first_idle_object(ob_lin, tramo);
+    }
+    if is_at(Kind::Tramo, 4, k, f) & (u == 9) {
+        return first_endless(tramo, vertice);
+    }
+    Found::Nothing
+}
+
+// A found index, and 0 where there is none.
+fn or_first(found: Found) -> usize
+    ensures { λ r. ⌜ r ≡ orIndex found ⌝ }
+{
+    match found {
+        Found::Nothing => 0,
+        Found::At(j) => j,
+    }
+}
+
+// The reason 50 + u with its data, for node i.
+fn reason_in(u: usize, i: usize, nodo: &[u8]) -> Reason
+    requires { ⌜ i < 16384 ⌝ }
+    ensures { λ r. ⌜ r ≡ getD (fiftyReasons (deliveryOf (filesOf [] [] [] [] [] [] (now (nodo .entry)))) Kind.Nodo i 0) u Reason.LongFile10 ⌝ }
+{
+    match u {
+        0 => Reason::OrderGap50,
+        1 => Reason::OrderAlone51,
+        2 => Reason::StartElsewhere52,
+        3 => Reason::EndElsewhere53,
+        4 => Reason::SamePlace54(or_first(place_before(nodo, i)) + 1),
+        5 => Reason::PointElsewhere55,
+        6 => Reason::IdleNode56,
+        7 => Reason::IdleObject57,
+        9 => Reason::NoLastVertex59,
+        _ => Reason::LongFile10,
+    }
+}
+
+// The first break of the fifties in file k.
+pub fn check_file<'a>(
+    k: Kind,
+    ob_pun: &'a [u8],
+    ob_lin: &'a [u8],
+    tramo: &'a [u8],
+    vertice: &'a [u8],
+    nodo: &'a [u8],
+) -> Finding
+    ensures { λ r. ⌜ r ≡ topologyIn (deliveryOf (filesOf [] (now («ob_pun» .entry)) [] (now («ob_lin» .entry)) (now (tramo .entry)) (now (vertice .entry)) (now (nodo .entry)))) k ⌝ }
+{
+    let n = (k.fields() + 1) * 10;
+    let mut best = Best {
+        found: false,
+        at: 0,
+        cell: 0,
+    };
+    let mut c = 0;
+    while c < n {
+        let found = first_in(k, c / 10, c % 10, ob_pun, ob_lin, tramo, vertice, nodo);
+        best = better(best, found, c);
+        c += 1;
+    }
+    if best.found {
+        let i = best.at;
+        let f = best.cell / 10;
+        let u = best.cell % 10;
+        let reason = reason_in(u, i, nodo);
+        Finding::Broken(break_of(reason, k, i + 1, f))
+    } else {
+        Finding::Fine
+    }
+}
+
+fn check_which<'a>(
+    which: Which,
+    ob_pun: &'a [u8],
+    ob_lin: &'a [u8],
+    tramo: &'a [u8],
+    vertice: &'a [u8],
+    nodo: &'a [u8],
+) -> Finding
+    ensures { λ r. ⌜ r ≡ atFile (topologyIn (deliveryOf (filesOf [] (now («ob_pun» .entry)) [] (now («ob_lin» .entry)) (now (tramo .entry)) (now (vertice .entry)) (now (nodo .entry))))) which ⌝ }
+{
+    match which {
+        Which::NoFile => Finding::Fine,
+        Which::File(k) => check_file(k, ob_pun, ob_lin, tramo, vertice, nodo),
+    }
+}
+
+// The first break of the fifties in a delivery.
+pub fn check_topology<'a>(
+    ob_pun: &'a [u8],
+    ob_lin: &'a [u8],
+    tramo: &'a [u8],
+    vertice: &'a [u8],
+    nodo: &'a [u8],
+) -> Finding
+    ensures { λ r. ⌜ r ≡ topologyFinding (deliveryOf (filesOf [] (now («ob_pun» .entry)) [] (now («ob_lin» .entry)) (now (tramo .entry)) (now (vertice .entry)) (now (nodo .entry)))) ⌝ }
+{
+    let mut n = 0;
+    while n < 8 {
+        let v = check_which(kind_of(n), ob_pun, ob_lin, tramo, vertice, nodo);
+        if v.is_fine() {
+            n += 1;
+        } else {
+            return v;
+        }
+    }
+    Finding::Fine
+}
