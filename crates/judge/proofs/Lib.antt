@@ -1,0 +1,12 @@
+pub mod JudgeLaws
+pub mod SameFiles
+pub mod LineLaws
+pub mod FreeWords
+pub mod NoneBroken
+pub mod Made
+pub mod Turns
+pub mod Rearranged
+pub mod Shuffle
+pub mod Writer
+pub mod Exact
+pub mod Cases

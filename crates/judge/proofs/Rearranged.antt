@@ -1,0 +1,286 @@
+-- Two deliveries that say the same, the one with its files' records in another order: where no rule of keys, references and
+-- topology is broken in the one, none is in the other.
+-- Assumes nothing.
+use Prim.Native.Nat.{ℕ, zero, suc, _+_, _-_, _<_, _≤_}
+use mathlib.Core.Bool.{Bool, true, false, not, _&&_, _||_}
+use mathlib.Core.List.{[]}
+use mathlib.Core.Path.{_≡_, refl, sym, ap, ap₂, _∙_}
+use native.Mathlib.Omega.{arith}
+use lib.Dec.{leb, eqb}
+use lib.ListN.{getD}
+use borrow.Author.Tests.{leb-true, eqb-true, eq-eqb}
+use Rattle.laws.specs.Find.{any}
+use Rattle.laws.specs.Row.{each}
+use Rattle.laws.proofs.RowLaws.{and-true, then-false, and-last, same-test, picked, end, more, falses}
+use Rattle.record.specs.declared.kind.Kind.{Kind}
+use Rattle.record.specs.declared.kind.Kind.the-variants.{Catalogo, ObPun, ObTex, ObLin, Tramo, Vertice, Nodo}
+use Rattle.record.specs.Table.{fieldsOf, fileOf, keysOf}
+use Rattle.record.specs.Says.{Said, Table, isMissing, numberIn, placeIn}
+use Rattle.record.proofs.TableLaws.{each-getD, kinds, kind-at, every}
+use Rattle.keys.specs.declared.names.Target.{Target}
+use Rattle.keys.specs.declared.names.Target.the-variants.{Free, Nowhere, To}
+use Rattle.keys.specs.Delivery.{Delivery, ownLine, nameAt, vertexKey, keyOf, targets, targetOf}
+use Rattle.keys.specs.Rules.{names, repeats, breaks30, dangles, danglesTo, breaks40, typedIn, mistyped, breaks41, keyTests}
+use Rattle.keys.specs.Findings.{keysBroken}
+use Rattle.topology.specs.Rules.{isAt, placed, nodeIn, vertex, hasVertex, highestIn, highest, meets, elsewhere, tramoLine, gap, breaks50, alone, breaks51, startElsewhere, breaks52, endElsewhere, breaks53, samePlace, placedBefore, breaks54, pointElsewhere, breaks55, nodeUsed, breaks56, objectIdle, breaks57, breaks59, fifties}
+use Rattle.topology.specs.Findings.{topologyTests, topologyBroken}
+use Rattle.judge.proofs.NoneBroken.{NoTest, none-tests, tests-none}
+use Rattle.judge.proofs.Turns.{Turn, any-turn, earlier-turn, highest-turn}
+
+-- record i of a file of e is record `to i` of that of d
+pub record Rearranged (d e : Delivery) : Type 0 where
+  pub count : (k : Kind) → e k .count ≡ d k .count
+  pub turn : (k : Kind) → Turn (d k .count)
+  pub says : (k : Kind) (i f : ℕ) → i < d k .count → f ≤ fieldsOf k → e k .says i f ≡ d k .says (turn k .to i) f
+
+-- THE TABLES name fields that there are
+abbrev fits : Target → Bool
+fits Free = true
+fits Nowhere = true
+fits (To k g) = leb g (fieldsOf k)
+
+abbrev lawful : Kind → Bool
+lawful k = leb 1 (fieldsOf k) && (leb (keysOf k) (fieldsOf k) && each fits (targets k))
+
+lawful-all : (k : Kind) → (1 ≤ fieldsOf k) × (keysOf k ≤ fieldsOf k) × (each fits (targets k) ≡ true)
+unfolding each
+lawful-all k =
+    let w = and-true _ _ (every lawful refl k) in
+    let v = and-true _ _ (w .1) in
+    (leb-true _ _ (w .0), leb-true _ _ (v .0), v .1)
+
+target-fits : (k : Kind) (f : ℕ) → fits (targetOf k f) ≡ true
+unfolding targetOf
+target-fits k f = each-getD fits (targets k) Free refl (lawful-all k .2) f
+
+-- a file has its number alone
+file-same : (j k : Kind) → eqb (fileOf j) (fileOf k) ≡ true → j ≡ k
+file-same j k e = sym (kind-at j) ∙ ap (λ (n : ℕ). getD kinds (n - 1) Catalogo) (eqb-true (fileOf j) (fileOf k) e) ∙ kind-at k
+
+eqb-swap : (a b : ℕ) → eqb a b ≡ eqb b a
+eqb-swap a b = same-test (eqb a b) (eqb b a) (λ e. eq-eqb b a (sym (eqb-true a b e))) (λ e. eq-eqb a b (sym (eqb-true b a e)))
+
+same-swap : (t : Table) (i j : ℕ) → samePlace t i j ≡ samePlace t j i
+unfolding samePlace
+same-swap t i j = ap₂ _&&_ (at 4) (ap₂ _&&_ (at 6) (at 8))
+  where
+    at : (f : ℕ) → eqb (placeIn (t .says j f)) (placeIn (t .says i f)) ≡ eqb (placeIn (t .says i f)) (placeIn (t .says j f))
+    at f = eqb-swap (placeIn (t .says j f)) (placeIn (t .says i f))
+
+module _ (d e : Delivery) (r : Rearranged d e) where
+  abbrev to : Kind → ℕ → ℕ
+  to k i = r .turn k .to i
+
+  -- SEARCHES in a file
+  any-there : (k : Kind) (p q : ℕ → Bool) → ((j : ℕ) → j < d k .count → q j ≡ p (to k j)) → any q (e k .count) ≡ any p (d k .count)
+  any-there k p q same = ap (any q) (r .count k) ∙ any-turn (r .turn k) p q same
+
+  names-there :
+      (k : Kind) (key other : ℕ → ℕ) → ((j : ℕ) → j < d k .count → other j ≡ key (to k j)) → (x : ℕ)
+      → names other (e k .count) x ≡ names key (d k .count) x
+  names-there k key other same x = any-there k (λ j. eqb (key j) x) (λ j. eqb (other j) x) (λ j l. ap (λ (y : ℕ). eqb y x) (same j l))
+
+  -- NAMES AND KEYS
+  own-there : (k : Kind) (i f : ℕ) → i < d k .count → ownLine k (e k) i f ≡ ownLine k (d k) (to k i) f
+  own-there Catalogo i f l = refl
+  own-there ObPun i f l = refl
+  own-there ObTex i f l = refl
+  own-there ObLin i f l = refl
+  own-there Tramo i f l = ap (λ (s : Said). eqb f 4 && isMissing s) (r .says Tramo i 4 l (omega arith))
+  own-there Vertice i f l = refl
+  own-there Nodo i f l = refl
+
+  name-there : (k : Kind) (i f : ℕ) → i < d k .count → f ≤ fieldsOf k → nameAt k (e k) i f ≡ nameAt k (d k) (to k i) f
+  unfolding nameAt
+  name-there k i f l b = rw (own-there k i f l, r .says k i 1 l (lawful-all k .0), r .says k i f l b)
+
+  key-there : (k : Kind) (i : ℕ) → i < d k .count → keyOf k (e k) i ≡ keyOf k (d k) (to k i)
+  unfolding keyOf
+  key-there Catalogo i l = name-there Catalogo i 1 l (omega arith)
+  key-there ObPun i l = name-there ObPun i 1 l (omega arith)
+  key-there ObTex i l = name-there ObTex i 1 l (omega arith)
+  key-there ObLin i l = name-there ObLin i 1 l (omega arith)
+  key-there Tramo i l = name-there Tramo i 1 l (omega arith)
+  key-there Vertice i l = ap₂ vertexKey (name-there Vertice i 1 l (omega arith)) (ap numberIn (r .says Vertice i 2 l (omega arith)))
+  key-there Nodo i l = name-there Nodo i 1 l (omega arith)
+
+  -- THE RULES of keys and references
+  dangles-there : (t : Target) → fits t ≡ true → (x : ℕ) → danglesTo t e x ≡ danglesTo t d x
+  unfolding dangles
+  dangles-there Free h x = refl
+  dangles-there Nowhere h x = refl
+  dangles-there (To k g) h x =
+      ap (λ (b : Bool). not (eqb x 0) && not b) (names-there k _ _ (λ j l. name-there k j g l (leb-true g (fieldsOf k) h)) x)
+
+  code-there : (j : ℕ) → j < d Catalogo .count → nameAt Catalogo (e Catalogo) j 1 ≡ nameAt Catalogo (d Catalogo) (to Catalogo j) 1
+  code-there j l = name-there Catalogo j 1 l (omega arith)
+
+  mistyped-there : (letter x : ℕ) → mistyped letter (e Catalogo) x ≡ mistyped letter (d Catalogo) x
+  unfolding mistyped typedIn
+  mistyped-there letter x =
+      ap₂ (λ (a b : Bool). a && not b)
+      (names-there Catalogo _ _ code-there x)
+      (any-there Catalogo _ _ (λ j l. rw (code-there j l, r .says Catalogo j 2 l (omega arith))))
+
+  module _ (k : Kind) (i : ℕ) (l : i < d k .count) where
+    none-30 : ((j : ℕ) → j < d k .count → repeats (keyOf k (d k)) j ≡ false) → repeats (keyOf k (e k)) i ≡ false
+    unfolding repeats
+    none-30 h =
+        earlier-turn (r .turn k) (λ x y. eqb (keyOf k (d k) y) (keyOf k (d k) x)) (λ x y. eqb (keyOf k (e k) y) (keyOf k (e k) x))
+        (λ x y. eqb-swap (keyOf k (d k) y) (keyOf k (d k) x)) (λ x y a b. ap₂ eqb (key-there k y b) (key-there k x a)) h i l
+
+    module _ (f : ℕ) (b : f ≤ fieldsOf k) where
+      there-40 : breaks40 e k i f ≡ breaks40 d k (to k i) f
+      unfolding breaks40
+      there-40 = rw (name-there k i f l b) (dangles-there (targetOf k f) (target-fits k f) _)
+
+      there-41 : breaks41 e k i f ≡ breaks41 d k (to k i) f
+      unfolding breaks41
+      there-41 = rw (name-there k i f l b, mistyped-there)
+
+  module _ (h : (k : Kind) → NoTest (λ t. keyTests t d k) k (d k .count)) where
+    apart : (k : Kind) (j : ℕ) → j < d k .count → repeats (keyOf k (d k)) j ≡ false
+    unfolding keyTests breaks30
+    apart k j l = then-false _ _ (h k 3 j (keysOf k) 0 l (lawful-all k .1) (omega arith)) (eq-eqb (keysOf k) (keysOf k) refl)
+
+    key-tests : (k : Kind) → NoTest (λ t. keyTests t e k) k (e k .count)
+    unfolding keyTests breaks30
+    key-tests k zero i f u l b s = refl
+    key-tests k (suc zero) i f u l b s = refl
+    key-tests k (suc (suc zero)) i f u l b s = refl
+    key-tests k (suc (suc (suc zero))) i f u l b s =
+        falses (more (and-last (eqb f (keysOf k)) _ (λ _. none-30 k i (rw (r .count k) at l) (apart k))) end) u
+    key-tests k (suc (suc (suc (suc zero)))) i f u l b s =
+        let m : i < d k .count = rw (r .count k) at l in
+        let w = r .turn k .to-within i m in
+        falses (more (there-40 k i m f b ∙ h k 4 (to k i) f 0 w b (omega arith)) (more (there-41 k i m f b ∙ h k 4 (to k i) f 1 w b (omega arith)) end)) u
+    key-tests k (suc (suc (suc (suc (suc t))))) i f u l b s = refl
+
+  pub keys-rearranged : ((k : Kind) (n i f : ℕ) → keysBroken d k n i f ≡ false) → (k : Kind) (n i f : ℕ) → keysBroken e k n i f ≡ false
+  unfolding keysBroken
+  keys-rearranged h k = tests-none (λ t. keyTests t e k) k (e k .count) (key-tests (λ j. none-tests (λ t. keyTests t d j) j (d j .count) (h j)) k)
+
+  -- THE RULES of topology: of vertices,
+  vertex-there : (j : ℕ) → j < d Vertice .count → vertex e j ≡ vertex d (to Vertice j)
+  vertex-there = key-there Vertice
+
+  has-there : (x : ℕ) → hasVertex e x ≡ hasVertex d x
+  has-there x = names-there Vertice (vertex d) (vertex e) vertex-there x
+
+  highest-there : (line : ℕ) → highest e line ≡ highest d line
+  highest-there line = ap (highestIn (vertex e) line) (r .count Vertice) ∙ highest-turn (r .turn Vertice) (vertex d) (vertex e) vertex-there line
+
+  gap-there : (i : ℕ) → i < d Vertice .count → gap (vertex e) (e Vertice .count) i ≡ gap (vertex d) (d Vertice .count) (to Vertice i)
+  unfolding gap
+  gap-there i l = rw (vertex-there i l, has-there (vertex d (to Vertice i) - 1))
+
+  alone-there : (i : ℕ) → i < d Vertice .count → alone (vertex e) (e Vertice .count) i ≡ alone (vertex d) (d Vertice .count) (to Vertice i)
+  unfolding alone
+  alone-there i l = rw (vertex-there i l, has-there (vertex d (to Vertice i) + 1))
+
+  -- of ends and nodes,
+  node-there : (name x y : ℕ) → nodeIn (e Nodo) name x y ≡ nodeIn (d Nodo) name x y
+  unfolding nodeIn
+  node-there name x y =
+      any-there Nodo _ _
+      (λ j l. rw (name-there Nodo j 1 l (omega arith), r .says Nodo j 4 l (omega arith), r .says Nodo j 6 l (omega arith)))
+
+  meets-there : (key name : ℕ) → meets e key name ≡ meets d key name
+  unfolding meets
+  meets-there key name =
+      any-there Vertice _ _
+      (λ j l. rw (vertex-there j l, node-there, r .says Vertice j 4 l (omega arith), r .says Vertice j 6 l (omega arith)))
+
+  elsewhere-there : (key name : ℕ) → elsewhere e key name ≡ elsewhere d key name
+  elsewhere-there key name = ap₂ (λ (a b : Bool). a && not b) (has-there key) (meets-there key name)
+
+  start-there : (i : ℕ) → i < d Tramo .count → startElsewhere e i ≡ startElsewhere d (to Tramo i)
+  unfolding startElsewhere
+  start-there i l = elsewhere-there _ _ ∙ rw (name-there Tramo i 4 l (omega arith), name-there Tramo i 6 l (omega arith))
+
+  end-there : (i : ℕ) → i < d Tramo .count → endElsewhere e i ≡ endElsewhere d (to Tramo i)
+  unfolding endElsewhere
+  end-there i l = elsewhere-there _ _ ∙ rw (highest-there, name-there Tramo i 4 l (omega arith), name-there Tramo i 7 l (omega arith))
+
+  last-there : (i : ℕ) → i < d Tramo .count → eqb (highest e (tramoLine e i)) 0 ≡ eqb (highest d (tramoLine d (to Tramo i))) 0
+  last-there i l = rw (highest-there, name-there Tramo i 4 l (omega arith))
+
+  same-there : (i j : ℕ) → i < d Nodo .count → j < d Nodo .count → samePlace (e Nodo) i j ≡ samePlace (d Nodo) (to Nodo i) (to Nodo j)
+  unfolding samePlace
+  same-there i j l m =
+      ap₂ _&&_ (same-at 4 (omega arith)) (ap₂ _&&_ (same-at 6 (omega arith)) (same-at 8 (omega arith)))
+    where
+      same-at : (f : ℕ) → f ≤ fieldsOf Nodo
+          → eqb (placeIn (e Nodo .says j f)) (placeIn (e Nodo .says i f)) ≡ eqb (placeIn (d Nodo .says (to Nodo j) f)) (placeIn (d Nodo .says (to Nodo i) f))
+      same-at f b = ap₂ (λ (x y : Said). eqb (placeIn x) (placeIn y)) (r .says Nodo j f m b) (r .says Nodo i f l b)
+
+  point-there : (i : ℕ) → i < d ObPun .count → pointElsewhere e i ≡ pointElsewhere d (to ObPun i)
+  unfolding pointElsewhere
+  point-there i l =
+      rw (name-there ObPun i 3 l (omega arith), r .says ObPun i 9 l (omega arith), r .says ObPun i 11 l (omega arith), node-there)
+
+  -- and of what is in use
+  placed-there : (x y : ℕ) → placed Vertice (e Vertice) (e Vertice .count) x y ≡ placed Vertice (d Vertice) (d Vertice .count) x y
+  unfolding placed
+  placed-there x y = any-there Vertice _ _ (λ j l. rw (r .says Vertice j 4 l (omega arith), r .says Vertice j 6 l (omega arith)))
+
+  used-there : (i : ℕ) → i < d Nodo .count → nodeUsed e i ≡ nodeUsed d (to Nodo i)
+  unfolding nodeUsed
+  used-there i l =
+      rw (name-there Nodo i 1 l (omega arith), r .says Nodo i 4 l (omega arith), r .says Nodo i 6 l (omega arith))
+      (ap₂ _||_ (names-there Tramo _ _ (λ j m. name-there Tramo j 6 m (omega arith)) _)
+      (ap₂ _||_ (names-there Tramo _ _ (λ j m. name-there Tramo j 7 m (omega arith)) _)
+      (ap₂ _||_ (placed-there _ _) (names-there ObPun _ _ (λ j m. name-there ObPun j 3 m (omega arith)) _))))
+
+  idle-there : (i : ℕ) → i < d ObLin .count → objectIdle e i ≡ objectIdle d (to ObLin i)
+  unfolding objectIdle
+  idle-there i l =
+      rw (name-there ObLin i 1 l (omega arith)) (ap not (names-there Tramo _ _ (λ j m. name-there Tramo j 2 m (omega arith)) _))
+
+  -- a rule that is read of one file at one field
+  told :
+      (file : Kind) (field : ℕ) (p q : ℕ → Bool) → ((i : ℕ) → i < d file .count → q i ≡ p (to file i)) → (k : Kind) (i f : ℕ) → i < d k .count
+      → (isAt file field k f && p (to k i)) ≡ false → (isAt file field k f && q i) ≡ false
+  told file field p q same k i f l h =
+      and-last (isAt file field k f) (q i)
+      (λ t.
+      let z = file-same k file (and-true (eqb (fileOf k) (fileOf file)) (eqb f field) t .0) in
+      let b : p (to k i) ≡ false = then-false (isAt file field k f) (p (to k i)) h t in
+      same i (rw z at l) ∙ (rw z at b))
+
+  module _ (h : (k : Kind) → NoTest (topologyTests d k) k (d k .count)) where
+    separate : (j : ℕ) → j < d Nodo .count → placedBefore (d Nodo) j ≡ false
+    unfolding fifties breaks54
+    separate j l = h Nodo 5 j 0 4 l (omega arith) (omega arith)
+
+    none-54 : (i : ℕ) → i < d Nodo .count → placedBefore (e Nodo) i ≡ false
+    unfolding placedBefore
+    none-54 = earlier-turn (r .turn Nodo) (samePlace (d Nodo)) (samePlace (e Nodo)) (same-swap (d Nodo)) same-there separate
+
+    fifties-there : (k : Kind) (i f u : ℕ) → i < d k .count → f ≤ fieldsOf k → getD (fifties e k i f) u false ≡ false
+    unfolding fifties breaks50 breaks51 breaks52 breaks53 breaks54 breaks55 breaks56 breaks57 breaks59
+    fifties-there k i f u l b =
+        falses
+        (more (told Vertice 2 (gap (vertex d) (d Vertice .count)) _ gap-there k i f l (no 0 (omega arith)))
+        (more (told Vertice 2 (alone (vertex d) (d Vertice .count)) _ alone-there k i f l (no 1 (omega arith)))
+        (more (told Tramo 6 (startElsewhere d) _ start-there k i f l (no 2 (omega arith)))
+        (more (told Tramo 7 (endElsewhere d) _ end-there k i f l (no 3 (omega arith)))
+        (more (told Nodo 0 (λ j. false) _ none-54 k i f l (and-last (isAt Nodo 0 k f) false (λ _. refl)))
+        (more (told ObPun 3 (pointElsewhere d) _ point-there k i f l (no 5 (omega arith)))
+        (more (told Nodo 0 (λ j. not (nodeUsed d j)) _ (λ j m. ap not (used-there j m)) k i f l (no 6 (omega arith)))
+        (more (told ObLin 0 (objectIdle d) _ idle-there k i f l (no 7 (omega arith)))
+        (more refl
+        (more (told Tramo 4 (λ j. eqb (highest d (tramoLine d j)) 0) _ last-there k i f l (no 9 (omega arith))) end))))))))))
+        u
+      where
+        no : (u : ℕ) → u < 10 → getD (fifties d k (to k i) f) u false ≡ false
+        no u s = h k 5 (to k i) f u (r .turn k .to-within i l) b s
+
+    topology-tests : (k : Kind) → NoTest (topologyTests e k) k (e k .count)
+    topology-tests k t i f u l b s =
+        picked (λ ts. getD ts u false ≡ false) (eqb t 5) (fifties e k i f) [] (λ _. fifties-there k i f u (rw (r .count k) at l) b) (λ _. refl)
+
+  pub topology-rearranged : ((k : Kind) (n i f : ℕ) → topologyBroken d k n i f ≡ false) → (k : Kind) (n i f : ℕ) → topologyBroken e k n i f ≡ false
+  unfolding topologyBroken
+  topology-rearranged h k =
+      tests-none (topologyTests e k) k (e k .count) (topology-tests (λ j. none-tests (topologyTests d j) j (d j .count) (h j)) k)

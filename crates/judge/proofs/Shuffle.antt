@@ -1,0 +1,45 @@
+-- Records in another order obey the rules where the records do.
+-- Assumes nothing.
+use Prim.Native.Nat.{ℕ, _<_}
+use mathlib.Core.Path.{_≡_, ap}
+use lib.Dec.{leb}
+use lib.ListN.{length}
+use Rattle.laws.specs.Row.{pick}
+use Rattle.record.specs.declared.kind.Kind.{Kind}
+use Rattle.record.specs.Table.{fieldsOf}
+use Rattle.record.specs.Says.{missing}
+use Rattle.codec.specs.declared.values.Values.{Values}
+use Rattle.codec.specs.Values.{valuesSay}
+use Rattle.judge.specs.Obeys.{Records, noValues, valuesAt, tablesOf, Obeys, Shuffled}
+use Rattle.judge.proofs.Rearranged.{Rearranged, keys-rearranged, topology-rearranged}
+
+module _ (vs ws : Records) (sh : (k : Kind) → Shuffled (vs k) (ws k)) where
+  moved-at : (k : Kind) (i : ℕ) → i < length (vs k) → valuesAt ws k i ≡ valuesAt vs k (sh k .to i)
+  moved-at k i l = sh k .moved noValues i l
+
+  tables-shuffled : Rearranged (tablesOf vs) (tablesOf ws)
+  tables-shuffled =
+      record {
+        count = λ k. sh k .long;
+        turn = λ k.
+            record {
+              to = sh k .to;
+              from = sh k .from;
+              to-within = sh k .to-within;
+              from-within = sh k .from-within;
+              to-from = sh k .to-from;
+              from-to = sh k .from-to;
+            };
+        says = λ k i f l b. ap (λ (x : Values). pick (leb f (fieldsOf k)) (valuesSay k x f) missing) (moved-at k i l);
+      }
+
+  pub shuffled-obeys : Obeys vs → Obeys ws
+  shuffled-obeys o =
+      record {
+        few = λ k. rw (sh k .long) (o .few k);
+        fields = λ k i l.
+            let b : i < length (vs k) = rw (sh k .long) at l in
+            rw (moved-at k i b) (o .fields k (sh k .to i) (sh k .to-within i b));
+        keys = keys-rearranged (tablesOf vs) (tablesOf ws) tables-shuffled (o .keys);
+        topology = topology-rearranged (tablesOf vs) (tablesOf ws) tables-shuffled (o .topology);
+      }

@@ -1,0 +1,94 @@
+-- What the writer promises: of values that obey the rules, in any order, it makes files that the verdict accepts.
+-- Assumes nothing.
+use Prim.Native.Nat.{ℕ, zero, suc}
+use mathlib.Core.Bool.{false}
+use mathlib.Core.List.{List, [], _∷_}
+use mathlib.Core.Path.{_≡_, refl, ap, _∙_}
+use native.Mathlib.Omega.{arith}
+use lib.ListN.{length}
+use borrow.Author.Tests.{le-leb}
+use Rattle.laws.specs.Row.{row}
+use Rattle.laws.proofs.FindLaws.{first-none}
+use Rattle.record.specs.declared.kind.Kind.{Kind}
+use Rattle.record.specs.declared.kind.Kind.the-variants.{Catalogo, ObPun, ObTex, ObLin, Tramo, Vertice, Nodo}
+use Rattle.record.specs.declared.reason.Finding.the-variants.{Fine}
+use Rattle.record.specs.Table.{fieldsOf, whichOf}
+use Rattle.record.specs.Breaks.{findingOf}
+use Rattle.keys.specs.Delivery.{Delivery, deliveryOf}
+use Rattle.keys.specs.Groups.{breakIn}
+use Rattle.keys.specs.Rules.{keyTests, keyReasons}
+use Rattle.keys.specs.Findings.{keysBroken, keysIn, keysFinding}
+use Rattle.topology.specs.Rules.{fiftyReasons}
+use Rattle.topology.specs.Findings.{topologyTests, topologyBroken, topologyIn, topologyFinding}
+use Rattle.judge.specs.declared.judge.Verdict.{Verdict}
+use Rattle.judge.specs.Verdict.{groupAt, judged, countsOf, verdictOf}
+use Rattle.judge.specs.Obeys.{Records, tablesOf, Obeys, madeOf, Shuffled}
+use Rattle.judge.proofs.NoneBroken.{over-fine, none-broken-fine}
+use Rattle.judge.proofs.Made.{count-written, shape-written, fields-written, said-written}
+use Rattle.judge.proofs.Turns.{stay}
+use Rattle.judge.proofs.Rearranged.{Rearranged, keys-rearranged, topology-rearranged}
+use Rattle.judge.proofs.Shuffle.{shuffled-obeys}
+
+-- accepted, with the number of values of each file
+abbrev pub lengthsOf : Records → List ℕ
+lengthsOf vs =
+    length (vs Catalogo) ∷ length (vs ObPun) ∷ length (vs ObTex) ∷ length (vs ObLin)
+    ∷ length (vs Tramo) ∷ length (vs Vertice) ∷ length (vs Nodo) ∷ []
+
+abbrev pub accepted : Records → Verdict
+accepted vs = record { finding = Fine; counts = lengthsOf vs }
+
+-- where nothing is broken, nothing is found
+pub keys-fine : (d : Delivery) → ((k : Kind) (n i f : ℕ) → keysBroken d k n i f ≡ false) → (t : ℕ) → keysFinding t d ≡ Fine
+unfolding keysFinding keysIn keysBroken
+keys-fine d h t = over-fine _ (λ k. none-broken-fine (λ t. keyTests t d k) k (d k .count) (h k) (keyReasons t d k) t)
+
+pub topology-fine : (d : Delivery) → ((k : Kind) (n i f : ℕ) → topologyBroken d k n i f ≡ false) → topologyFinding d ≡ Fine
+unfolding topologyFinding topologyIn topologyBroken
+topology-fine d h = over-fine _ (λ k. none-broken-fine (topologyTests d k) k (d k .count) (h k) (fiftyReasons d k) 5)
+
+module _ (vs : Records) (o : Obeys vs) where
+  -- the files' tables say what the values say
+  tables-made : Rearranged (tablesOf vs) (deliveryOf (madeOf vs))
+  tables-made =
+      record {
+        count = λ k. rw (count-written k (vs k)) (let h = o .few k in omega arith);
+        turn = λ k. stay (length (vs k));
+        says = λ k i f l b. said-written k (vs k) (o .fields k) i f l b ∙ rw (le-leb f (fieldsOf k) b);
+      }
+
+  -- and so break no rule that these keep
+  keys-made : (k : Kind) (n i f : ℕ) → keysBroken (deliveryOf (madeOf vs)) k n i f ≡ false
+  keys-made = keys-rearranged (tablesOf vs) (deliveryOf (madeOf vs)) tables-made (o .keys)
+
+  topology-made : (k : Kind) (n i f : ℕ) → topologyBroken (deliveryOf (madeOf vs)) k n i f ≡ false
+  topology-made = topology-rearranged (tablesOf vs) (deliveryOf (madeOf vs)) tables-made (o .topology)
+
+  group-fine : (t : ℕ) → groupAt (madeOf vs) t ≡ Fine
+  unfolding groupAt
+  group-fine zero = refl
+  group-fine (suc zero) = over-fine _ (λ k. shape-written k (vs k) (o .few k))
+  group-fine (suc (suc zero)) = over-fine _ (λ k. fields-written k (vs k) (o .fields k))
+  group-fine (suc (suc (suc zero))) = keys-fine _ keys-made 3
+  group-fine (suc (suc (suc (suc zero)))) = keys-fine _ keys-made 4
+  group-fine (suc (suc (suc (suc (suc zero))))) = topology-fine _ topology-made
+  group-fine (suc (suc (suc (suc (suc (suc t)))))) = refl
+
+  made-fine : judged (madeOf vs) ≡ Fine
+  unfolding judged
+  made-fine = ap findingOf (first-none _ 6 (λ t l. ap breakIn (group-fine t)))
+
+  made-counts : countsOf (madeOf vs) ≡ lengthsOf vs
+  unfolding countsOf row whichOf
+  made-counts = simp count-written
+
+  -- THE WRITER'S PROMISE: the files made of values that obey the rules are accepted, with as many records as there are values
+  pub writer-promise : verdictOf (madeOf vs) ≡ accepted vs
+  unfolding verdictOf
+  writer-promise = rw (made-fine, made-counts)
+
+-- and so are those made of the same records in any other order
+pub writer-promise-any-order : (vs ws : Records) → Obeys vs → ((k : Kind) → Shuffled (vs k) (ws k)) → verdictOf (madeOf ws) ≡ accepted vs
+writer-promise-any-order vs ws o sh =
+    let long : (k : Kind) → length (ws k) ≡ length (vs k) = λ k. sh k .long in
+    writer-promise ws (shuffled-obeys vs ws sh o) ∙ simp long

@@ -1,0 +1,63 @@
+-- `judge::judge::check_group` meets its contract, by the ten.
+-- Assumes nothing.
+use mathlib.Core.Path.{_∙_}
+use borrow.Author.Needs.{needs}
+use Rattle.judge.specs.Verdict.{groupAt}
+use Rattle.judge.proofs.JudgeLaws.{group-else}
+use Rattle.judge.proofs.SameFiles.{topology-same}
+use Rattle.judge.proofs.judge.check_group.Statement.{statement}
+use Rattle.judge.proofs.judge.check_group.Tie as tie
+
+check-files-requires : tie.Need-check-files-requires
+check-files-requires c κs = search needs
+
+check-files-requires-2 : tie.Need-check-files-requires-2
+check-files-requires-2 c κs = search needs
+
+check-keys-requires : tie.Need-check-keys-requires
+check-keys-requires c κs = search needs
+
+check-keys-requires-2 : tie.Need-check-keys-requires-2
+check-keys-requires-2 c κs = search needs
+
+check-topology-requires : tie.Need-check-topology-requires
+check-topology-requires c κs = search needs
+
+returns : tie.Need-returns
+unfolding groupAt
+returns c = rw (c .before .match .keys1) (c .check-files .ensures)
+
+returns-2 : tie.Need-returns-2
+unfolding groupAt
+returns-2 c = rw (c .before .match .keys2) (c .check-files2 .ensures)
+
+returns-3 : tie.Need-returns-3
+unfolding groupAt
+returns-3 c = rw (c .before .match .keys3) (c .check-keys .ensures)
+
+returns-4 : tie.Need-returns-4
+unfolding groupAt
+returns-4 c = rw (c .before .match .keys4) (c .check-keys2 .ensures)
+
+returns-5 : tie.Need-returns-5
+unfolding groupAt
+returns-5 c = rw (c .before .match .keys5) (c .check-topology .ensures ∙ topology-same _ _ _ _ _ _ _ _ _)
+
+returns-6 : tie.Need-returns-6
+returns-6 c = let r = c .match .rest in group-else _ _ (r .0 .0 .0 .0 .1) (r .0 .0 .0 .1) (r .0 .0 .1) (r .0 .1) (r .1)
+
+pub check-group-spec : {M : Type 1} → statement M
+check-group-spec =
+    tie.close
+    (tie.spec
+    check-files-requires
+    check-files-requires-2
+    check-keys-requires
+    check-keys-requires-2
+    check-topology-requires
+    returns
+    returns-2
+    returns-3
+    returns-4
+    returns-5
+    returns-6)

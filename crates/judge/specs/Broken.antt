@@ -1,0 +1,71 @@
+-- What is broken, and what a verdict is to mean: in terms of the rules' tests and the order of places alone.
+-- Assumes nothing.
+use Prim.Native.Nat.{ℕ, _+_, _-_, _/_, _%_}
+use mathlib.Core.Bool.{Bool, true, false}
+use mathlib.Core.List.{List, [], _∷_}
+use mathlib.Core.Path.{_≡_}
+use lib.ListN.{getD}
+use Rattle.laws.specs.Nest.{before}
+use Rattle.record.specs.declared.kind.Kind.{Kind}
+use Rattle.record.specs.declared.reason.Reason.{Reason}
+use Rattle.record.specs.declared.reason.Reason.the-variants.{LongFile10}
+use Rattle.record.specs.declared.reason.Break.{Break}
+use Rattle.record.specs.declared.reason.Finding.{Finding}
+use Rattle.record.specs.declared.reason.Finding.the-variants.{Fine, Broken}
+use Rattle.record.specs.Table.{fileOf}
+use Rattle.record.specs.Breaks.{numberOf, breakOf, tens, twentyReasons}
+use Rattle.record.specs.Claims.{broken}
+use Rattle.keys.specs.Delivery.{deliveryOf}
+use Rattle.keys.specs.Rules.{keyReasons}
+use Rattle.keys.specs.Findings.{keysBroken}
+use Rattle.topology.specs.Rules.{fiftyReasons}
+use Rattle.topology.specs.Findings.{topologyBroken}
+use Rattle.judge.specs.Verdict.{Files}
+
+-- the reason with document 01's number n is broken at record i, field f of file k
+unfoldable pub isBroken : Files → ℕ → Kind → ℕ → ℕ → Bool
+isBroken files n k i f =
+    getD
+    (false
+    ∷ broken (files k) k n i f
+    ∷ broken (files k) k n i f
+    ∷ keysBroken (deliveryOf files) k n i f
+    ∷ keysBroken (deliveryOf files) k n i f
+    ∷ topologyBroken (deliveryOf files) k n i f
+    ∷ [])
+    (n / 10) false
+
+-- that reason, with its data
+unfoldable pub reasonOf : Files → ℕ → Kind → ℕ → ℕ → Reason
+reasonOf files n k i f =
+    getD
+    (getD
+    ([]
+    ∷ tens
+    ∷ twentyReasons
+    ∷ keyReasons 3 (deliveryOf files) k (i - 1) f
+    ∷ keyReasons 4 (deliveryOf files) k (i - 1) f
+    ∷ fiftyReasons (deliveryOf files) k (i - 1) f
+    ∷ [])
+    (n / 10) [])
+    (n % 10) LongFile10
+
+-- the order of breaks: tens of the reason, file, record, field, reason
+abbrev pub placeAt : ℕ → Kind → ℕ → ℕ → List ℕ
+placeAt n k i f = n / 10 ∷ fileOf k ∷ i ∷ f ∷ n ∷ []
+
+-- the break of the reason with the number n at record i, field f of file k is the first: it is broken, and no break comes earlier
+pub record First (files : Files) (b : Break) : Type 0 where
+  pub n : ℕ
+  pub k : Kind
+  pub i : ℕ
+  pub f : ℕ
+  pub shown : b ≡ breakOf (reasonOf files n k i f) k i f
+  pub number : numberOf (b .reason) ≡ n
+  pub really : isBroken files n k i f ≡ true
+  pub least : (n' : ℕ) (k' : Kind) (i' f' : ℕ) → isBroken files n' k' i' f' ≡ true → before (placeAt n' k' i' f') (placeAt n k i f) ≡ true → ⊥
+
+-- what a finding on a delivery is to mean
+unfoldable pub Judges : Files → Finding → Type 0
+Judges files Fine = (n : ℕ) (k : Kind) (i f : ℕ) → isBroken files n k i f ≡ false
+Judges files (Broken b) = First files b

@@ -1,0 +1,5 @@
+pub mod Verdict
+pub mod Broken
+pub mod Words
+pub mod Obeys
+pub mod Line
