@@ -22,7 +22,8 @@ use Rattle.codec.specs.declared.values.Values.{Values}
 abbrev pub noValue : Value
 noValue = record { given = false; number = 0; coordinate = pos 0; len = 0; text = blanks 60 }
 
--- a text: the first len bytes of the struct's sixty; those past the sixtieth count as 0, and no bytes are no text
+-- a text: the first len bytes of the struct's sixty; those past the sixtieth count as 0, and no bytes are no text. `given` is read of
+-- numbers and coordinates only
 abbrev pub textBy : Value → Said
 textBy v = pick (eqb (v .len) 0) missing (text (firstBytes (v .len) (v .text)))
 
@@ -40,7 +41,7 @@ saidBy Size v = pick (v .given) (coordinate (v .coordinate)) missing
 unfoldable pub valueAt : Values → ℕ → Value
 valueAt v f = getD (noValue ∷ v .at) f noValue
 
--- what the values say of a record of the kind
+-- what the values say of a record of the kind, at its fields; values past its last field are not looked at
 unfoldable pub valuesSay : Kind → Values → ℕ → Said
 valuesSay k v f = saidBy (formAt k f) (valueAt v f)
 

@@ -9,7 +9,7 @@ unfoldable pub digits : ℕ → ℕ → List ℕ
 digits zero n = []
 digits (suc w) n = digits w (n / 10) ++ ((48 + n % 10) ∷ [])
 
--- the number that the first w bytes of s write; a byte below the digits counts 0
+-- the number that the first w bytes of s write. It is meant of digits; of any other byte it is defined, and no more
 unfoldable pub number : ℕ → List ℕ → ℕ
 number zero s = 0
 number (suc w) s = number w s * 10 + (getD s w 0 - 48)

@@ -10,9 +10,9 @@ use native.Mathlib.Omega.{arith}
 use lib.Dec.{eqb}
 use lib.ListN.{getD}
 use borrow.Author.Tests.{eq-eqb, ne-eqb, eqb-true, eqb-false}
-use Rattle.laws.specs.Find.{any}
+use Rattle.laws.specs.Find.{any, names}
 use Rattle.laws.proofs.FindLaws.{any-true, any-false, any-same, index-some-at, index-none-at, index-none}
-use Rattle.index.specs.Keys.{Column, listed, names, firstNamed, firstDuplicate, foundOf}
+use Rattle.index.specs.Keys.{Column, listed, firstNamed, firstDuplicate, foundOf}
 use Rattle.index.specs.Order.{Index, keyAt}
 use Rattle.index.specs.Look.{Bracket, LastIn, Sought, lineOf, HighestIn}
 use Rattle.index.specs.declared.Found.{Found}

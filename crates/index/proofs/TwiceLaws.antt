@@ -11,9 +11,9 @@ use native.Mathlib.Omega.{arith}
 use lib.Dec.{eqb}
 use lib.ListN.{getD}
 use borrow.Author.Tests.{eq-eqb, ne-eqb, eqb-false, not-true}
-use Rattle.laws.specs.Find.{firstIndex, any}
+use Rattle.laws.specs.Find.{firstIndex, any, names}
 use Rattle.laws.proofs.FindLaws.{any-true, any-false, any-no, any-same, index-of-any, index-none-at, index-none, index-same}
-use Rattle.index.specs.Keys.{Column, listed, names, firstDuplicate, repeated}
+use Rattle.index.specs.Keys.{Column, listed, firstDuplicate, repeated}
 use Rattle.index.specs.Order.{Index, keyAt}
 use Rattle.index.proofs.OrderLaws.{same-or, less-or, ascends, placed}
 

@@ -6,7 +6,7 @@ use mathlib.Core.List.{List}
 use mathlib.Core.Option.{Option, none, some}
 use lib.Dec.{eqb}
 use lib.ListN.{getD}
-use Rattle.laws.specs.Find.{firstIndex, any}
+use Rattle.laws.specs.Find.{firstIndex, any, names}
 use Rattle.index.specs.declared.Found.{Found}
 use Rattle.index.specs.declared.Found.the-variants.{At, Nothing}
 
@@ -22,10 +22,6 @@ Column = ℕ → ℕ
 -- the numbers of a list
 abbrev pub listed : List ℕ → Column
 listed keys k = getD keys k 0
-
--- whether one of the first n has the number x
-abbrev pub names : Column → ℕ → ℕ → Bool
-names key n x = any (λ k. eqb (key k) x) n
 
 -- the first of n that has the number x
 abbrev pub firstNamed : Column → ℕ → ℕ → Option ℕ

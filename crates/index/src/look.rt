@@ -2,7 +2,8 @@
 use crate::Found;
 ghost use mathlib.Core.Path.{_≡_};
 ghost use Prim.Native.Nat.{ℕ, _^_, _≤_};
-ghost use Rattle.index.specs.Keys.{listed, names};
+ghost use Rattle.laws.specs.Find.{names};
+ghost use Rattle.index.specs.Keys.{listed};
 ghost use Rattle.index.specs.Order.{Index};
 ghost use Rattle.index.specs.Look.{Bracket, LastIn, Sought, HighestIn};
 

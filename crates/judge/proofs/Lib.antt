@@ -10,3 +10,4 @@ pub mod Shuffle
 pub mod Writer
 pub mod Exact
 pub mod Cases
+pub mod Promises

@@ -1,19 +1,28 @@
 -- What a line holds once its words are put one after another (specs/Line.antt): each law says what is left to write.
 -- Assumes nothing.
 use Prim.Native.Nat.{ℕ, suc, _+_, _-_, _*_, _<_, _≤_}
+use mathlib.Core.Bool.{Bool, true, false}
 use mathlib.Core.List.{List, [], _∷_, _++_, append-assoc}
+use mathlib.Core.Option.{none}
 use mathlib.Core.Path.{_≡_, refl, sym, ap, _∙_}
 use native.Mathlib.Numerals.{add-one}
 use native.Mathlib.Omega.{arith}
 use lib.ListN.{length, take, drop, set, getD, length-set, length-append, length-take, drop-of-length-le}
 use lib.Seq.{take-at, take-suc-set, drop-cons}
 use borrow.Rule.Slice.PartMut.{putMid, midOf, same-len-mid, mid-len}
+use borrow.Author.Tests.{eq-eqb, ne-eqb}
+use Rattle.laws.specs.Find.{firstIndex}
+use Rattle.laws.proofs.FindLaws.{index-start, index-more, index-here, index-end}
 use Rattle.field.specs.Digits.{digits}
+use Rattle.record.specs.declared.kind.Which.{Which}
 use Rattle.record.specs.declared.reason.Break.{Break}
 use Rattle.record.specs.declared.reason.Finding.the-variants.{Fine, Broken}
+use Rattle.record.specs.Table.{whichOf}
 use Rattle.record.specs.Breaks.{numberOf}
+use Rattle.keys.specs.Rules.{orFirst}
 use Rattle.judge.specs.declared.judge.Verdict.{Verdict}
-use Rattle.judge.specs.Line.{countWords, breakLine, lineOf}
+use Rattle.judge.specs.Verdict.{Files, verdictOf}
+use Rattle.judge.specs.Line.{countWords, breakLine, lineOf, isBig, bigOf, bigLine, programLine}
 
 -- A WORD: a blank at a place, and a number's digits put behind it
 module _ (at w : ℕ) (buf : List ℕ) (h : at + w < length buf) where
@@ -105,3 +114,48 @@ module _ (v : Verdict) (s : List ℕ) where
   pub broken-line : (b : Break) → v .finding ≡ Broken b → s ≡ breakLine b → s ≡ lineOf v
   unfolding lineOf
   broken-line b e h = rw e h
+
+-- BIG: the loop over the file numbers has passed none that is
+unfoldable pub bigAt : Files → ℕ → Bool
+bigAt files n = isBig files (whichOf n)
+
+pub record NoneBig (files : Files) (n : ℕ) : Type 0 where
+  pub within : n ≤ 8
+  pub past : firstIndex (bigAt files) n ≡ none
+
+pub big-start : (files : Files) → NoneBig files 0
+big-start files = record { within = omega arith; past = index-start _ }
+
+module _ {files : Files} {n : ℕ} (s : NoneBig files n) where
+  pub big-end : 8 ≤ n → 0 ≡ bigOf files
+  unfolding bigOf bigAt
+  big-end u = ap orFirst (sym (index-end (bigAt files) 8 refl (s .within) u (s .past)))
+
+  -- r says whether the file of the number n is big
+  module _ {w : Which} {r : Bool} (l : n < 8) (e : w ≡ whichOf n) (h : r ≡ isBig files w) where
+    big-turn : r ≡ bigAt files n
+    unfolding bigAt
+    big-turn = rw (← e) h
+
+    pub big-here : r ≡ true → n ≡ bigOf files
+    unfolding bigOf bigAt
+    big-here y = ap orFirst (sym (index-here (bigAt files) 8 (s .past) l (sym big-turn ∙ y)))
+
+    pub big-more : r ≡ false → NoneBig files (n + 1)
+    big-more y = record { within = omega arith; past = index-more _ (s .past) (sym big-turn ∙ y) }
+
+pub big-put : (file at : ℕ) (bytes : List ℕ) → take at bytes ≡ 66 ∷ 73 ∷ 71 ∷ 32 ∷ digits 1 file → at ≡ 5 → at < length bytes
+    → take 6 (set bytes at 10) ≡ bigLine file
+big-put file at bytes e q l =
+    ap (λ (m : ℕ). take (suc m) (set bytes at 10)) (sym q)
+    ∙ line-end _ at bytes l (word-more _ _ 1 file 3 at (66 ∷ 73 ∷ 71 ∷ []) bytes refl e)
+
+-- THE PROGRAM'S LINE, by the number of the first big file
+module _ (files : Files) {big : ℕ} {s : List ℕ} (e : big ≡ bigOf files) where
+  pub no-big-line : {v : Verdict} → big ≡ 0 → v ≡ verdictOf files → s ≡ lineOf v → s ≡ programLine files
+  unfolding programLine
+  no-big-line z q h = rw (← e, eq-eqb big 0 z, ← q) h
+
+  pub some-big-line : (big ≡ 0 → ⊥) → s ≡ bigLine big → s ≡ programLine files
+  unfolding programLine
+  some-big-line z h = rw (← e, ne-eqb big 0 z) h

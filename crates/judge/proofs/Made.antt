@@ -13,7 +13,8 @@ use Rattle.record.specs.declared.reason.Finding.the-variants.{Fine}
 use Rattle.record.specs.Table.{lengthOf, fieldsOf, colAt, formAt, widthAt}
 use Rattle.record.specs.Cut.{countOf, recordOf, textOf}
 use Rattle.record.specs.Breaks.{shapeFinding, fieldsFinding}
-use Rattle.record.specs.Says.{limit, saidIn, saidAs}
+use Rattle.record.specs.Table.{limit}
+use Rattle.record.specs.Says.{saidIn, saidAs}
 use Rattle.record.proofs.TableLaws.{sane}
 use Rattle.record.proofs.CutLaws.{record-part}
 use Rattle.record.proofs.FindingLaws.{shape-fine}

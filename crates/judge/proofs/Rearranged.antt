@@ -9,7 +9,7 @@ use native.Mathlib.Omega.{arith}
 use lib.Dec.{leb, eqb}
 use lib.ListN.{getD}
 use borrow.Author.Tests.{leb-true, eqb-true, eq-eqb}
-use Rattle.laws.specs.Find.{any}
+use Rattle.laws.specs.Find.{any, names}
 use Rattle.laws.specs.Row.{each}
 use Rattle.laws.proofs.RowLaws.{and-true, then-false, and-last, same-test, picked, end, more, falses}
 use Rattle.record.specs.declared.kind.Kind.{Kind}
@@ -20,7 +20,7 @@ use Rattle.record.proofs.TableLaws.{each-getD, kinds, kind-at, every}
 use Rattle.keys.specs.declared.names.Target.{Target}
 use Rattle.keys.specs.declared.names.Target.the-variants.{Free, Nowhere, To}
 use Rattle.keys.specs.Delivery.{Delivery, ownLine, nameAt, vertexKey, keyOf, targets, targetOf}
-use Rattle.keys.specs.Rules.{names, repeats, breaks30, dangles, danglesTo, breaks40, typedIn, mistyped, breaks41, keyTests}
+use Rattle.keys.specs.Rules.{repeats, breaks30, dangles, danglesTo, breaks40, typedIn, mistyped, breaks41, keyTests}
 use Rattle.keys.specs.Findings.{keysBroken}
 use Rattle.topology.specs.Rules.{isAt, placed, nodeIn, vertex, hasVertex, highestIn, highest, meets, elsewhere, tramoLine, gap, breaks50, alone, breaks51, startElsewhere, breaks52, endElsewhere, breaks53, samePlace, placedBefore, breaks54, pointElsewhere, breaks55, nodeUsed, breaks56, objectIdle, breaks57, breaks59, fifties}
 use Rattle.topology.specs.Findings.{topologyTests, topologyBroken}

@@ -2,12 +2,8 @@
 -- Assumes nothing.
 use Prim.Native.Nat.{ℕ, _<_}
 use mathlib.Core.Path.{_≡_, ap}
-use lib.Dec.{leb}
 use lib.ListN.{length}
-use Rattle.laws.specs.Row.{pick}
 use Rattle.record.specs.declared.kind.Kind.{Kind}
-use Rattle.record.specs.Table.{fieldsOf}
-use Rattle.record.specs.Says.{missing}
 use Rattle.codec.specs.declared.values.Values.{Values}
 use Rattle.codec.specs.Values.{valuesSay}
 use Rattle.judge.specs.Obeys.{Records, noValues, valuesAt, tablesOf, Obeys, Shuffled}
@@ -30,7 +26,7 @@ module _ (vs ws : Records) (sh : (k : Kind) → Shuffled (vs k) (ws k)) where
               to-from = sh k .to-from;
               from-to = sh k .from-to;
             };
-        says = λ k i f l b. ap (λ (x : Values). pick (leb f (fieldsOf k)) (valuesSay k x f) missing) (moved-at k i l);
+        says = λ k i f l b. ap (λ (x : Values). valuesSay k x f) (moved-at k i l);
       }
 
   pub shuffled-obeys : Obeys vs → Obeys ws

@@ -6,13 +6,12 @@ use mathlib.Core.List.{List, [], _∷_}
 use mathlib.Core.Path.{_≡_, refl, ap, _∙_}
 use native.Mathlib.Omega.{arith}
 use lib.ListN.{length}
-use borrow.Author.Tests.{le-leb}
 use Rattle.laws.specs.Row.{row}
 use Rattle.laws.proofs.FindLaws.{first-none}
 use Rattle.record.specs.declared.kind.Kind.{Kind}
 use Rattle.record.specs.declared.kind.Kind.the-variants.{Catalogo, ObPun, ObTex, ObLin, Tramo, Vertice, Nodo}
 use Rattle.record.specs.declared.reason.Finding.the-variants.{Fine}
-use Rattle.record.specs.Table.{fieldsOf, whichOf}
+use Rattle.record.specs.Table.{whichOf}
 use Rattle.record.specs.Breaks.{findingOf}
 use Rattle.keys.specs.Delivery.{Delivery, deliveryOf}
 use Rattle.keys.specs.Groups.{breakIn}
@@ -22,21 +21,12 @@ use Rattle.topology.specs.Rules.{fiftyReasons}
 use Rattle.topology.specs.Findings.{topologyTests, topologyBroken, topologyIn, topologyFinding}
 use Rattle.judge.specs.declared.judge.Verdict.{Verdict}
 use Rattle.judge.specs.Verdict.{groupAt, judged, countsOf, verdictOf}
-use Rattle.judge.specs.Obeys.{Records, tablesOf, Obeys, madeOf, Shuffled}
+use Rattle.judge.specs.Obeys.{Records, tablesOf, Obeys, madeOf, Shuffled, lengthsOf, accepted}
 use Rattle.judge.proofs.NoneBroken.{over-fine, none-broken-fine}
 use Rattle.judge.proofs.Made.{count-written, shape-written, fields-written, said-written}
 use Rattle.judge.proofs.Turns.{stay}
 use Rattle.judge.proofs.Rearranged.{Rearranged, keys-rearranged, topology-rearranged}
 use Rattle.judge.proofs.Shuffle.{shuffled-obeys}
-
--- accepted, with the number of values of each file
-abbrev pub lengthsOf : Records → List ℕ
-lengthsOf vs =
-    length (vs Catalogo) ∷ length (vs ObPun) ∷ length (vs ObTex) ∷ length (vs ObLin)
-    ∷ length (vs Tramo) ∷ length (vs Vertice) ∷ length (vs Nodo) ∷ []
-
-abbrev pub accepted : Records → Verdict
-accepted vs = record { finding = Fine; counts = lengthsOf vs }
 
 -- where nothing is broken, nothing is found
 pub keys-fine : (d : Delivery) → ((k : Kind) (n i f : ℕ) → keysBroken d k n i f ≡ false) → (t : ℕ) → keysFinding t d ≡ Fine
@@ -54,7 +44,7 @@ module _ (vs : Records) (o : Obeys vs) where
       record {
         count = λ k. rw (count-written k (vs k)) (let h = o .few k in omega arith);
         turn = λ k. stay (length (vs k));
-        says = λ k i f l b. said-written k (vs k) (o .fields k) i f l b ∙ rw (le-leb f (fieldsOf k) b);
+        says = λ k i f l b. said-written k (vs k) (o .fields k) i f l b;
       }
 
   -- and so break no rule that these keep

@@ -22,7 +22,8 @@ use Rattle.topology.specs.Rules.{fiftyReasons}
 use Rattle.topology.specs.Findings.{topologyBroken}
 use Rattle.judge.specs.Verdict.{Files}
 
--- the reason with document 01's number n is broken at record i, field f of file k
+-- the reason with document 01's number n is broken at record i, field f of file k. Document 01 reads a rule only where no lower ten is
+-- broken: where one is, what this tells of higher tens is never shown, since the break of the lower ten comes first
 unfoldable pub isBroken : Files → ℕ → Kind → ℕ → ℕ → Bool
 isBroken files n k i f =
     getD

@@ -3,3 +3,4 @@ pub mod Broken
 pub mod Words
 pub mod Obeys
 pub mod Line
+pub mod Cases

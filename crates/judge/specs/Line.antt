@@ -1,13 +1,23 @@
--- The verdict program's line (document 01, "The verdict program").
+-- The verdict program's line (document 01, "The verdict program"): `OK` and the counts, `NO` and the break, or `BIG` and the file.
 -- Assumes nothing.
 use Prim.Native.Nat.{ℕ}
+use mathlib.Core.Bool.{Bool, true, false}
 use mathlib.Core.List.{List, [], _∷_, _++_}
+use lib.Dec.{ltb, eqb}
+use lib.ListN.{length}
+use Rattle.laws.specs.Find.{firstIndex}
+use Rattle.laws.specs.Row.{pick}
 use Rattle.field.specs.Digits.{digits}
+use Rattle.record.specs.declared.kind.Which.{Which}
+use Rattle.record.specs.declared.kind.Which.the-variants.{NoFile, File}
 use Rattle.record.specs.declared.reason.Break.{Break}
 use Rattle.record.specs.declared.reason.Finding.{Finding}
 use Rattle.record.specs.declared.reason.Finding.the-variants.{Fine, Broken}
+use Rattle.record.specs.Table.{whichOf}
 use Rattle.record.specs.Breaks.{numberOf}
+use Rattle.keys.specs.Rules.{orFirst}
 use Rattle.judge.specs.declared.judge.Verdict.{Verdict}
+use Rattle.judge.specs.Verdict.{Files, verdictOf}
 
 -- each count after a blank, in five digits
 unfoldable pub countWords : List ℕ → List ℕ
@@ -26,3 +36,20 @@ lineFor (Broken b) counts = breakLine b
 -- `OK` and seven counts; or the break
 unfoldable pub lineOf : Verdict → List ℕ
 lineOf v = lineFor (v .finding) (v .counts)
+
+-- the file passes 8,192 bytes
+abbrev pub isBig : Files → Which → Bool
+isBig files NoFile = false
+isBig files (File k) = ltb 8192 (length (files k))
+
+-- the lowest number of such a file, and 0 where none is
+unfoldable pub bigOf : Files → ℕ
+bigOf files = orFirst (firstIndex (λ n. isBig files (whichOf n)) 8)
+
+-- `BIG` and the file in one digit
+abbrev pub bigLine : ℕ → List ℕ
+bigLine file = 66 ∷ 73 ∷ 71 ∷ 32 ∷ (digits 1 file ++ 10 ∷ [])
+
+-- THE LINE that the program prints: BIG goes before everything
+unfoldable pub programLine : Files → List ℕ
+programLine files = pick (eqb (bigOf files) 0) (lineOf (verdictOf files)) (bigLine (bigOf files))

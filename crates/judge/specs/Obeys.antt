@@ -4,13 +4,11 @@ use Prim.Native.Nat.{ℕ, _≤_, _<_}
 use mathlib.Core.Bool.{Bool, true, false}
 use mathlib.Core.List.{List, [], _∷_, _++_}
 use mathlib.Core.Path.{_≡_}
-use lib.Dec.{leb}
 use lib.ListN.{length, getD, replicate}
-use Rattle.laws.specs.Row.{pick}
 use Rattle.record.specs.declared.kind.Kind.{Kind}
+use Rattle.record.specs.declared.kind.Kind.the-variants.{Catalogo, ObPun, ObTex, ObLin, Tramo, Vertice, Nodo}
 use Rattle.record.specs.declared.reason.Finding.the-variants.{Fine}
-use Rattle.record.specs.Table.{fieldsOf}
-use Rattle.record.specs.Says.{Table, limit, missing}
+use Rattle.record.specs.Table.{limit}
 use Rattle.codec.specs.declared.values.Values.{Values}
 use Rattle.codec.specs.Values.{noValue, valuesSay}
 use Rattle.codec.specs.Writes.{encode}
@@ -18,6 +16,7 @@ use Rattle.codec.specs.Refusals.{valuesFinding}
 use Rattle.keys.specs.Delivery.{Delivery}
 use Rattle.keys.specs.Findings.{keysBroken}
 use Rattle.topology.specs.Findings.{topologyBroken}
+use Rattle.judge.specs.declared.judge.Verdict.{Verdict}
 use Rattle.judge.specs.Verdict.{Files}
 
 -- for each file the values of its records
@@ -33,7 +32,7 @@ valuesAt vs k i = getD (vs k) i noValues
 
 -- what they say, as tables
 abbrev pub tablesOf : Records → Delivery
-tablesOf vs k = record { count = length (vs k); says = λ i f. pick (leb f (fieldsOf k)) (valuesSay k (valuesAt vs k i) f) missing }
+tablesOf vs k = record { count = length (vs k); says = λ i f. valuesSay k (valuesAt vs k i) f }
 
 -- at most 16,384 records a file, no record refused in writing, and no rule of keys, references and topology broken
 pub record Obeys (vs : Records) : Type 0 where
@@ -50,6 +49,15 @@ writtenOf k (v ∷ vs) = encode k (valuesSay k v) ++ writtenOf k vs
 -- the files that the writer makes
 abbrev pub madeOf : Records → Files
 madeOf vs k = writtenOf k (vs k)
+
+-- accepted, with the number of values of each file
+abbrev pub lengthsOf : Records → List ℕ
+lengthsOf vs =
+    length (vs Catalogo) ∷ length (vs ObPun) ∷ length (vs ObTex) ∷ length (vs ObLin)
+    ∷ length (vs Tramo) ∷ length (vs Vertice) ∷ length (vs Nodo) ∷ []
+
+abbrev pub accepted : Records → Verdict
+accepted vs = record { finding = Fine; counts = lengthsOf vs }
 
 -- the same records in another order: place i of ys is place `to i` of xs, and back
 pub record Shuffled {A : Type 0} (xs ys : List A) : Type 0 where

@@ -1,13 +1,18 @@
-// The verdict program's line: `OK` and seven counts, or `NO` and the break.
+// The verdict program's line: `OK` and seven counts, `NO` and the break, or `BIG` and the file.
 use crate::judge::Verdict;
+use crate::judge::judge;
 use field::number::put_number;
+use keys::names::file_of;
+use record::kind::Which;
+use record::kind::kind_of;
 use record::reason::Break;
 use record::reason::Finding;
 ghost use mathlib.Core.Path.{_≡_};
 ghost use mathlib.Core.List.{List, _++_, _∷_, []};
 ghost use Prim.Native.Nat.{ℕ, _+_, _≤_, _<_};
 ghost use lib.ListN.{length, take, drop};
-ghost use Rattle.judge.specs.Line.{countWords, breakLine, lineFor, lineOf};
+ghost use Rattle.keys.specs.Delivery.{filesOf};
+ghost use Rattle.judge.specs.Line.{countWords, breakLine, lineOf, isBig, bigOf, bigLine, programLine};
 ghost use Rattle.field.specs.Digits.{digits};
 
 // A line of up to 45 bytes, its line feed among them.
@@ -71,5 +76,91 @@ pub fn line_of(v: Verdict) -> Line
     match finding {
         Finding::Fine => count_line(counts),
         Finding::Broken(b) => break_line(b),
+    }
+}
+
+// Whether the file passes 8,192 bytes.
+fn is_big<'a>(
+    which: Which,
+    catalogo: &'a [u8],
+    ob_pun: &'a [u8],
+    ob_tex: &'a [u8],
+    ob_lin: &'a [u8],
+    tramo: &'a [u8],
+    vertice: &'a [u8],
+    nodo: &'a [u8],
+) -> bool
+    ensures { λ r. ⌜ r ≡ isBig (filesOf (now (catalogo .entry)) (now («ob_pun» .entry)) (now («ob_tex» .entry)) (now («ob_lin» .entry)) (now (tramo .entry)) (now (vertice .entry)) (now (nodo .entry))) which ⌝ }
+{
+    match which {
+        Which::NoFile => false,
+        Which::File(k) => {
+            8192 < file_of(k, catalogo, ob_pun, ob_tex, ob_lin, tramo, vertice, nodo).len()
+        }
+    }
+}
+
+// The number of the first file that passes 8,192 bytes, and 0 where none does.
+fn first_big<'a>(
+    catalogo: &'a [u8],
+    ob_pun: &'a [u8],
+    ob_tex: &'a [u8],
+    ob_lin: &'a [u8],
+    tramo: &'a [u8],
+    vertice: &'a [u8],
+    nodo: &'a [u8],
+) -> usize
+    ensures { λ r. ⌜ r ≡ bigOf (filesOf (now (catalogo .entry)) (now («ob_pun» .entry)) (now («ob_tex» .entry)) (now («ob_lin» .entry)) (now (tramo .entry)) (now (vertice .entry)) (now (nodo .entry))) ⌝ }
+{
+    let mut n = 0;
+    while n < 8 {
+        if is_big(
+            kind_of(n),
+            catalogo,
+            ob_pun,
+            ob_tex,
+            ob_lin,
+            tramo,
+            vertice,
+            nodo,
+        ) {
+            return n;
+        }
+        n += 1;
+    }
+    0
+}
+
+fn big_line(file: usize) -> Line
+    ensures { λ r. ⌜ take (r .len) (r .bytes) ≡ bigLine file ⌝ }
+    ensures long { λ r. ⌜ r .len ≡ 6 ⌝ }
+{
+    let mut bytes = [0u8; 45];
+    bytes[0] = 66;
+    bytes[1] = 73;
+    bytes[2] = 71;
+    let at = put_word(&mut bytes, 3, 1, file);
+    bytes[at] = 10;
+    Line { len: 6, bytes }
+}
+
+// The line that the program prints of seven files, in any state; an absent one is empty.
+pub fn program_line<'a>(
+    catalogo: &'a [u8],
+    ob_pun: &'a [u8],
+    ob_tex: &'a [u8],
+    ob_lin: &'a [u8],
+    tramo: &'a [u8],
+    vertice: &'a [u8],
+    nodo: &'a [u8],
+) -> Line
+    ensures { λ r. ⌜ take (r .len) (r .bytes) ≡ programLine (filesOf (now (catalogo .entry)) (now («ob_pun» .entry)) (now («ob_tex» .entry)) (now («ob_lin» .entry)) (now (tramo .entry)) (now (vertice .entry)) (now (nodo .entry))) ⌝ }
+    ensures within { λ r. ⌜ r .len ≤ 45 ⌝ }
+{
+    let big = first_big(catalogo, ob_pun, ob_tex, ob_lin, tramo, vertice, nodo);
+    if big == 0 {
+        line_of(judge(catalogo, ob_pun, ob_tex, ob_lin, tramo, vertice, nodo))
+    } else {
+        big_line(big)
     }
 }

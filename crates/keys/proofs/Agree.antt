@@ -26,7 +26,7 @@ use Rattle.record.proofs.TableLaws.{every}
 use Rattle.keys.specs.declared.names.Target.{Target}
 use Rattle.keys.specs.declared.names.Target.the-variants.{Free, Nowhere, To}
 use Rattle.keys.specs.Delivery.{Delivery, ownLine, nameAt, keyOf, targets, targetOf, typeOf, isFreeWord}
-use Rattle.keys.specs.Rules.{firstNamed, repeats, breaks30, dangles, danglesTo, breaks40, typedIn, mistyped, refersToCatalogue, breaks41, keyTests, keyReasons}
+use Rattle.keys.specs.Rules.{firstWith, repeats, breaks30, dangles, danglesTo, breaks40, typedIn, mistyped, refersToCatalogue, breaks41, keyTests, keyReasons}
 use Rattle.keys.specs.Groups.{cellBreak, cellsOf, groupFinding, brokenBy, overFiles}
 use Rattle.keys.specs.Findings.{keysIn, keysFinding, keysBroken}
 
@@ -78,7 +78,7 @@ hit-same {B} {t} {u} {x} {y} e h = rw e (go u h)
 
 -- 41's letter
 abbrev letterOf : Delivery → Kind → ℕ → ℕ → ℕ
-letterOf d k i f = letterIn (d Catalogo .says (firstNamed (λ j. nameAt Catalogo (d Catalogo) j 1) (d Catalogo .count) (nameAt k (d k) i f)) 2)
+letterOf d k i f = letterIn (d Catalogo .says (firstWith (λ j. nameAt Catalogo (d Catalogo) j 1) (d Catalogo .count) (nameAt k (d k) i f)) 2)
 
 module _ (d : Delivery) where
   own-struck : (k : Kind) (i f : ℕ) → ownLine k (struck d k) i f ≡ ownLine k (d k) i f
@@ -146,7 +146,7 @@ module _ (d : Delivery) where
       go Free r h = absurd (true-false (sym h))
       go Nowhere r h = absurd (true-false (sym h))
       go (To j g) r h =
-          ap (λ (x : ℕ). letterIn (d Catalogo .says (firstNamed (λ j. nameAt Catalogo (d Catalogo) j 1) (d Catalogo .count) x) 2))
+          ap (λ (x : ℕ). letterIn (d Catalogo .says (firstWith (λ j. nameAt Catalogo (d Catalogo) j 1) (d Catalogo .count) x) 2))
           (name-struck k i f (and-true (isRead k f) (isRead j g) r .0))
 
   reason-struck :
@@ -157,7 +157,7 @@ module _ (d : Delivery) where
   reason-struck k i f (suc zero) u h = refl
   reason-struck k i f (suc (suc zero)) u h = refl
   reason-struck k i f (suc (suc (suc zero))) u h =
-      ap (λ (key : ℕ → ℕ). getD (SameKey30 (suc (firstNamed key i (key i))) ∷ []) u LongFile10) (fun-ext (key-struck k))
+      ap (λ (key : ℕ → ℕ). getD (SameKey30 (suc (firstWith key i (key i))) ∷ []) u LongFile10) (fun-ext (key-struck k))
   reason-struck k i f (suc (suc (suc (suc zero)))) zero h = refl
   reason-struck k i f (suc (suc (suc (suc zero)))) (suc zero) h = ap OtherType41 (letter-struck k i f h)
   reason-struck k i f (suc (suc (suc (suc zero)))) (suc (suc u)) h = refl

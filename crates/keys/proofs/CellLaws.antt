@@ -34,7 +34,7 @@ use Rattle.keys.specs.declared.group.Best.{Best}
 use Rattle.keys.specs.declared.names.Target.{Target}
 use Rattle.keys.specs.declared.names.Target.the-variants.{Free, Nowhere, To}
 use Rattle.keys.specs.Delivery.{deliveryOf, nameAt, keyOf, targetOf, typeOf}
-use Rattle.keys.specs.Rules.{orFirst, firstNamed, repeats, breaks30, dangles, breaks40, mistyped, refersToCatalogue, breaks41, keyTests, keyReasons}
+use Rattle.keys.specs.Rules.{orFirst, firstWith, repeats, breaks30, dangles, breaks40, mistyped, refersToCatalogue, breaks41, keyTests, keyReasons}
 use Rattle.keys.specs.Groups.{Tests, Reasons, cellBreak, cellsOf, groupFinding, betterOf, noBest, bestOf, breakIn, atFile, overFiles}
 use Rattle.keys.proofs.FoundLaws.{Passed, found-more}
 
@@ -353,29 +353,29 @@ module _ (files : Kind → List ℕ) (k : Kind) (f : ℕ) {t u : ℕ} where
     reason-other o = other-default LongFile10 _ _ _ t u o
 
     module _ {own : List ℕ} (w : own ≡ files k) where
-      pub reason-30 : {x j : ℕ} → t ≡ 3 → u ≡ 0 → x ≡ keyOf k (tableOf own k) i → j ≡ firstNamed (keyOf k (tableOf own k)) i x
+      pub reason-30 : {x j : ℕ} → t ≡ 3 → u ≡ 0 → x ≡ keyOf k (tableOf own k) i → j ≡ firstWith (keyOf k (tableOf own k)) i x
           → SameKey30 (j + 1) ≡ getD (keyReasons t (deliveryOf files) k i f) u LongFile10
       unfolding keyReasons
       reason-30 e h q v = rw (e, h, v, q, w, add-one)
 
       pub reason-41 : {x j m z : ℕ} → t ≡ 4 → u ≡ 1 → m ≡ tableOf (files Catalogo) Catalogo .count → x ≡ nameAt k (tableOf own k) i f
-          → j ≡ firstNamed (keyOf Catalogo (tableOf (files Catalogo) Catalogo)) m x → z ≡ letterIn (tableOf (files Catalogo) Catalogo .says j 2)
+          → j ≡ firstWith (keyOf Catalogo (tableOf (files Catalogo) Catalogo)) m x → z ≡ letterIn (tableOf (files Catalogo) Catalogo .says j 2)
           → OtherType41 z ≡ getD (keyReasons t (deliveryOf files) k i f) u LongFile10
       unfolding keyReasons keyOf
       reason-41 e h p q v y = rw (e, h, y, v, p, q, w)
 
 -- THE FIRST OF A NAME: a loop that looks for it has the invariant `Passed`
 module _ (key : ℕ → ℕ) (n x : ℕ) where
-  pub named-here : {j : ℕ} → Passed (λ i. eqb (key i) x) n j → j < n → key j ≡ x → j ≡ firstNamed key n x
+  pub named-here : {j : ℕ} → Passed (λ i. eqb (key i) x) n j → j < n → key j ≡ x → j ≡ firstWith key n x
   named-here s l e = ap orFirst (sym (index-here _ n (s .past) l (eq-eqb _ _ e)))
 
   pub named-more : {j : ℕ} → Passed (λ i. eqb (key i) x) n j → j < n → (key j ≡ x → ⊥) → Passed (λ i. eqb (key i) x) n (j + 1)
   named-more s l e = found-more s l (ne-eqb _ _ e)
 
-  pub named-end : {j : ℕ} → Passed (λ i. eqb (key i) x) n j → n ≤ j → 0 ≡ firstNamed key n x
+  pub named-end : {j : ℕ} → Passed (λ i. eqb (key i) x) n j → n ≤ j → 0 ≡ firstWith key n x
   named-end s u = ap orFirst (sym (index-end _ n refl (s .under) u (s .past)))
 
-  pub named-under : firstNamed key n x ≤ n
+  pub named-under : firstWith key n x ≤ n
   named-under = go (firstIndex (λ i. eqb (key i) x) n) refl
     where
       go : (o : Option ℕ) → firstIndex (λ i. eqb (key i) x) n ≡ o → orFirst o ≤ n

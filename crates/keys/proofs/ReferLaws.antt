@@ -7,7 +7,7 @@ use mathlib.Core.Path.{_≡_, ap, _∙_}
 use native.Mathlib.Omega.{arith}
 use lib.ListN.{length, getD}
 use borrow.Author.Tests.{eq-eqb, ne-eqb}
-use Rattle.laws.specs.Find.{firstIndex}
+use Rattle.laws.specs.Find.{firstIndex, names}
 use Rattle.laws.proofs.FindLaws.{index-same, any-same, any-true}
 use Rattle.index.specs.Keys.{listed}
 use Rattle.index.specs.Look.{Sought}
@@ -18,7 +18,7 @@ use Rattle.record.specs.declared.kind.Kind.the-variants.{Catalogo}
 use Rattle.record.specs.Says.{Table, letterIn}
 use Rattle.keys.specs.Columns.{Fills}
 use Rattle.keys.specs.Delivery.{nameAt}
-use Rattle.keys.specs.Rules.{names, dangles, typedIn, mistyped}
+use Rattle.keys.specs.Rules.{dangles, typedIn, mistyped}
 
 -- A NAME that dangles, where r is whether a record has it
 module _ (key : ℕ → ℕ) (n x : ℕ) where

@@ -39,7 +39,7 @@ ownLine Tramo t i f = eqb f 4 && isMissing (t .says i 4)
 ownLine Vertice t i f = false
 ownLine Nodo t i f = false
 
--- what field f of record i names, as one number; 0 where it is missing
+-- what field f of record i names, as one number; 0 where it is missing (a CODIGO is never NA or ND here: that is 24)
 unfoldable pub nameAt : Kind → Table → ℕ → ℕ → ℕ
 nameAt k t i f = pick (ownLine k t i f) (keyIn (t .says i 1)) (keyIn (t .says i f))
 
@@ -58,13 +58,19 @@ keyOf Vertice t i = vertexKey (nameAt Vertice t i 1) (numberIn (t .says i 2))
 keyOf Nodo t i = nameAt Nodo t i 1
 
 -- REFERENCES: every CODIGO to file 1; point object to node; tramo to linear object, to a line of at least one vertex, to its nodes;
--- a VERTICE line to a tramo using it. Composite and perimeter ids have no file in the base
+-- a VERTICE line to a tramo using it. Composite and perimeter ids have no file in the base. By place from 0: Free refers to nothing,
+-- Nowhere to a file that is not there, To k g to the records of k by what their field g names
 abbrev pub targets : Kind → List Target
 targets Catalogo = []
+-- composite id, node id, CODIGO
 targets ObPun = Free ∷ Free ∷ Nowhere ∷ To Nodo 1 ∷ To Catalogo 1 ∷ []
+-- composite id, CODIGO
 targets ObTex = Free ∷ Free ∷ Nowhere ∷ To Catalogo 1 ∷ []
+-- composite id, CODIGO
 targets ObLin = Free ∷ Free ∷ Nowhere ∷ To Catalogo 1 ∷ []
+-- linear object, perimeter id, line, CODIGO, start node, end node
 targets Tramo = Free ∷ Free ∷ To ObLin 1 ∷ Nowhere ∷ To Vertice 1 ∷ To Catalogo 1 ∷ To Nodo 1 ∷ To Nodo 1 ∷ []
+-- line
 targets Vertice = Free ∷ To Tramo 4 ∷ []
 targets Nodo = []
 

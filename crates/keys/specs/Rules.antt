@@ -7,7 +7,7 @@ use mathlib.Core.List.{List, [], _∷_}
 use mathlib.Core.Option.{Option, none, some}
 use lib.Dec.{eqb}
 use lib.ListN.{getD}
-use Rattle.laws.specs.Find.{any, firstIndex}
+use Rattle.laws.specs.Find.{any, firstIndex, names}
 use Rattle.record.specs.declared.kind.Kind.{Kind}
 use Rattle.record.specs.declared.kind.Kind.the-variants.{Catalogo}
 use Rattle.record.specs.declared.reason.Reason.{Reason}
@@ -18,23 +18,19 @@ use Rattle.keys.specs.declared.names.Target.{Target}
 use Rattle.keys.specs.declared.names.Target.the-variants.{Free, Nowhere, To}
 use Rattle.keys.specs.Delivery.{Delivery, nameAt, keyOf, targetOf, typeOf}
 
--- one of the first n has the number x
-abbrev pub names : (ℕ → ℕ) → ℕ → ℕ → Bool
-names key n x = any (λ j. eqb (key j) x) n
-
 -- the first of n that has the number x, counted from 0; 0 where none has
 abbrev pub orFirst : Option ℕ → ℕ
 orFirst none = 0
 orFirst (some j) = j
 
-abbrev pub firstNamed : (ℕ → ℕ) → ℕ → ℕ → ℕ
-firstNamed key n x = orFirst (firstIndex (λ j. eqb (key j) x) n)
+abbrev pub firstWith : (ℕ → ℕ) → ℕ → ℕ → ℕ
+firstWith key n x = orFirst (firstIndex (λ j. eqb (key j) x) n)
 
 -- the key of record i is an earlier record's
 unfoldable pub repeats : (ℕ → ℕ) → ℕ → Bool
 repeats key i = names key i (key i)
 
--- 30: key equals an earlier record's of the file; told at field 1, in VERTICE 2
+-- 30: key equals an earlier record's of the file; told at the key's last field, field 1, in VERTICE 2
 unfoldable pub breaks30 : Delivery → Kind → ℕ → ℕ → Bool
 breaks30 d k i f = eqb f (keysOf k) && repeats (keyOf k (d k)) i
 
@@ -78,9 +74,9 @@ unfoldable pub keyReasons : ℕ → Delivery → Kind → ℕ → ℕ → List R
 keyReasons t d k i f =
     getD
     ([] ∷ [] ∷ []
-    ∷ (SameKey30 (suc (firstNamed (keyOf k (d k)) i (keyOf k (d k) i))) ∷ [])
+    ∷ (SameKey30 (suc (firstWith (keyOf k (d k)) i (keyOf k (d k) i))) ∷ [])
     ∷ (NoRecord40
-    ∷ OtherType41 (letterIn (d Catalogo .says (firstNamed (λ j. nameAt Catalogo (d Catalogo) j 1) (d Catalogo .count) (nameAt k (d k) i f)) 2))
+    ∷ OtherType41 (letterIn (d Catalogo .says (firstWith (λ j. nameAt Catalogo (d Catalogo) j 1) (d Catalogo .count) (nameAt k (d k) i f)) 2))
     ∷ [])
     ∷ [])
     t []

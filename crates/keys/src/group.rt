@@ -28,7 +28,7 @@ ghost use Rattle.laws.specs.Find.{firstIndex};
 ghost use Rattle.index.specs.Keys.{foundOf};
 ghost use Rattle.record.specs.Says.{tableOf};
 ghost use Rattle.keys.specs.Delivery.{filesOf, deliveryOf, nameAt, keyOf};
-ghost use Rattle.keys.specs.Rules.{breaks30, breaks40, breaks41, keyTests, keyReasons, refersToCatalogue, firstNamed};
+ghost use Rattle.keys.specs.Rules.{breaks30, breaks40, breaks41, keyTests, keyReasons, refersToCatalogue, firstWith};
 ghost use Rattle.keys.specs.Groups.{betterOf, atFile};
 ghost use Rattle.keys.specs.Findings.{keysIn, keysFinding};
 
@@ -184,7 +184,7 @@ fn first_in<'a>(
 
 // The first of n records whose key is x, counted from 0; 0 where there is none.
 fn first_with_key(s: &[u8], k: Kind, n: usize, x: u64) -> usize
-    ensures { λ r. ⌜ r ≡ firstNamed (keyOf k (tableOf (now (s .entry)) k)) n x ⌝ }
+    ensures { λ r. ⌜ r ≡ firstWith (keyOf k (tableOf (now (s .entry)) k)) n x ⌝ }
 {
     let mut j = 0;
     while j < n {
@@ -235,7 +235,7 @@ fn reason_in<'a>(
 }
 
 // The first break of the ten t in file k.
-pub fn check_file<'a>(
+fn check_file<'a>(
     t: usize,
     k: Kind,
     catalogo: &'a [u8],

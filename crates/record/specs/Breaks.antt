@@ -68,7 +68,8 @@ orEnd n (some i) = i
 unfoldable pub indexOf : List Bool → ℕ → ℕ
 indexOf tests n = orEnd n (firstIndex (λ u. getD tests u false) n)
 
--- the breaks at one place, from a test for each reason of the group and the reasons
+-- the breaks at one place, from a test for each reason of the group and the reasons (the default stands past the last and is never
+-- shown)
 unfoldable pub atPlace : List Bool → List Reason → Kind → ℕ → ℕ → Nest Break
 atPlace tests reasons k i f = node (length tests) (λ u. leaf (hit (getD tests u false) (breakOf (getD reasons u R.LongFile10) k i f)))
 

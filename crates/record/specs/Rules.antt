@@ -13,14 +13,14 @@ use Rattle.field.specs.Texts.{trimmed, notGiven}
 use Rattle.record.specs.declared.kind.Kind.{Kind}
 use Rattle.record.specs.declared.kind.Form.{Form}
 use Rattle.record.specs.declared.kind.Form.the-variants.{Words, Code, Tipo, Sense, Sign, Number, Size}
-use Rattle.record.specs.Table.{formAt, widthAt, mustAt, beforeAt, afterAt, offsetAt, fieldsOf, lengthOf, isN, isCode}
+use Rattle.record.specs.Table.{formAt, widthAt, mustAt, beforeAt, afterAt, offsetAt, fieldsOf, lengthOf, limit, isN, isCode}
 use Rattle.record.specs.Cut.{textOf}
 
 -- of a file's bytes s
 
 -- 10: longer than 16,384 records' bytes
 unfoldable pub breaks10 : List ℕ → Kind → Bool
-breaks10 s k = ltb (16384 * lengthOf k) (length s)
+breaks10 s k = ltb (limit * lengthOf k) (length s)
 
 -- 11: its length is no multiple of the record length
 unfoldable pub breaks11 : List ℕ → Kind → Bool
@@ -71,6 +71,7 @@ isSignByte b = eqb b 43 || eqb b 45
 unfoldable pub outside : Form → List ℕ → List ℕ → Bool
 outside Words t next = false
 outside Code t next = false
+-- P, X, L or T
 outside Tipo t next = not (eqb (getD t 0 0) 80 || eqb (getD t 0 0) 88 || eqb (getD t 0 0) 76 || eqb (getD t 0 0) 84)
 outside Sense t next = not (isSignByte (getD t 0 0))
 outside Sign t next = not (isSignByte (getD t 0 0)) || eqb (getD t 0 0) 45 && allOf Zero next

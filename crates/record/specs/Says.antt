@@ -16,7 +16,7 @@ use Rattle.field.specs.Texts.{trimmed, wordOf}
 use Rattle.record.specs.declared.kind.Kind.{Kind}
 use Rattle.record.specs.declared.kind.Form.{Form}
 use Rattle.record.specs.declared.kind.Form.the-variants.{Words, Code, Tipo, Sense, Sign, Number, Size}
-use Rattle.record.specs.Table.{formAt}
+use Rattle.record.specs.Table.{formAt, limit}
 use Rattle.record.specs.Cut.{countOf, recordOf, textOf}
 
 -- a coordinate, one signed whole number, is said at the number's field, and nothing at its sign's
@@ -43,12 +43,8 @@ saidAs Size t b = pick (allOf Blank t) missing (coordinate (signed (eqb (getD b 
 unfoldable pub saidIn : List ℕ → Kind → ℕ → Said
 saidIn s k f = saidAs (formAt k f) (textOf s k f) (textOf s k (f - 1))
 
--- a file has at most so many records
-abbrev pub limit : ℕ
-limit = 16384
-
--- what a file says: how many records, and what field f of record i, counted from 0, says; past the last record nothing. A file
--- longer than the limit is reason 10, and no rule is read of its table
+-- what a file says: how many records, and what field f of record i, counted from 0, says. A file longer than the limit is reason 10,
+-- and no rule is read of its table; so the count stops at the limit, and what is said past it is not read
 pub record Table : Type 0 where
   pub count : ℕ
   pub says : ℕ → ℕ → Said
@@ -75,7 +71,8 @@ coordinateIn (number n) = pos 0
 coordinateIn (text t) = pos 0
 coordinateIn (coordinate z) = z
 
--- what is said as one number, by which keys and references are compared: 0 where nothing is, so that no id is missing's
+-- an id or a CODIGO as one number, by which keys and references are compared: 0 is kept for what is missing, and the id 0 has number
+-- 1. (A text counts by its first eight bytes, and CODIGO has seven; a coordinate is no key.)
 abbrev pub keyIn : Said → ℕ
 keyIn missing = 0
 keyIn (number n) = n + 1

@@ -43,7 +43,7 @@ code = alone Code 7 true
 abbrev pub whole : Col
 whole = words 0
 
--- a sign and the number after it, with the partners of each
+-- a sign and the number after it. Their partners reach from `before` fields before the sign to `after` fields after the number
 abbrev pub signed : ℕ → Bool → ℕ → ℕ → List Col → List Col
 signed w must before after rest =
     record { form = Sign; width = 1; must = must; before = before; after = suc after }
@@ -62,13 +62,21 @@ position = signed 9 true 0 0 (signed 10 true 0 0 height)
 abbrev pub centroid : List Col
 centroid = signed 9 false 0 4 (signed 10 false 2 2 height)
 
+-- THE FIELDS of each file, in order, numbered from 1
 abbrev pub fields : Kind → List Col
+-- CODIGO, TIPO, NOMBRE_C, DEFINICI
 fields Catalogo = code ∷ alone Tipo 1 true ∷ words 60 ∷ words 60 ∷ []
+-- own id, composite id, node id, CODIGO, name, orientation, M, position
 fields ObPun = need 10 ∷ may 10 ∷ may 10 ∷ code ∷ words 60 ∷ may 5 ∷ may 3 ∷ position
+-- own id, composite id, CODIGO, LITERAL, height, width, orientation, justification, position
 fields ObTex = need 10 ∷ may 10 ∷ code ∷ words 60 ∷ need 3 ∷ may 3 ∷ may 5 ∷ need 1 ∷ position
+-- own id, composite id, CODIGO, name, centroid
 fields ObLin = need 10 ∷ may 10 ∷ code ∷ words 60 ∷ centroid
+-- own id, linear object id, perimeter id, line id, CODIGO, start node, end node, sense
 fields Tramo = need 10 ∷ need 10 ∷ may 10 ∷ may 10 ∷ code ∷ need 10 ∷ need 10 ∷ alone Sense 1 false ∷ []
+-- line id, order, position
 fields Vertice = need 10 ∷ need 5 ∷ position
+-- own id, TIPO (in the base any byte of the A set), position
 fields Nodo = need 10 ∷ words 1 ∷ position
 
 -- the columns by place: the whole record, then the fields from 1
@@ -83,12 +91,13 @@ roomIn (suc w) = suc (suc w)
 abbrev pub roomOf : Col → ℕ
 roomOf c = roomIn (c .width)
 
--- where the f-th begins; and the bytes of all, with one more, since the last field has two bytes after it
+-- where the f-th begins
 abbrev pub offsetIn : List Col → ℕ → ℕ
 offsetIn [] f = 0
 offsetIn (c ∷ cs) zero = 0
 offsetIn (c ∷ cs) (suc f) = roomOf c + offsetIn cs f
 
+-- the bytes of all, with one more, since the last field has two bytes after it
 abbrev pub lengthIn : List Col → ℕ
 lengthIn [] = 1
 lengthIn (c ∷ cs) = roomOf c + lengthIn cs
@@ -123,6 +132,10 @@ fieldsOf k = length (fields k)
 -- the bytes of a record
 abbrev pub lengthOf : Kind → ℕ
 lengthOf k = lengthIn (fields k)
+
+-- a file has at most so many records
+abbrev pub limit : ℕ
+limit = 16384
 
 -- the key is the first of so many fields: CODIGO, the own id, in VERTICE line and order together
 abbrev pub keysOf : Kind → ℕ

@@ -6,12 +6,11 @@ use mathlib.Core.Bool.{Bool, true, false, not}
 use mathlib.Core.List.{List}
 use mathlib.Core.Path.{_≡_, ap, _∙_}
 use borrow.Author.Tests.{eq-eqb, ne-eqb, lt-ltb, le-ltb}
-use Rattle.laws.specs.Find.{firstIndex}
+use Rattle.laws.specs.Find.{firstIndex, names}
 use Rattle.laws.proofs.FindLaws.{index-same}
 use Rattle.index.specs.Keys.{listed, foundOf}
 use Rattle.index.specs.declared.Found.{Found}
 use Rattle.keys.specs.Columns.{Fills}
-use Rattle.keys.specs.Rules.{names}
 use Rattle.keys.proofs.ReferLaws.{names-column}
 use Rattle.topology.specs.Rules.{orderOf, gap, alone}
 

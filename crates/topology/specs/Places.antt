@@ -1,4 +1,5 @@
--- Places as numbers that an index can hold: equal places have equal numbers.
+-- What the code's searches of places say; no promise cites this file. Places as numbers that an index can hold: equal places have
+-- equal numbers, and unequal ones almost always others.
 -- Assumes nothing.
 use Prim.Native.Nat.{ℕ, _+_, _*_, _%_, _<_}
 use mathlib.Core.Bool.{Bool, not, _&&_}
@@ -17,7 +18,7 @@ positionOf x y = x % 536870912 * 34359738368 + y % 34359738368
 unfoldable pub spotOf : ℕ → ℕ → ℕ → ℕ
 spotOf x y z = x % 2097152 * 8796093022208 + y % 33554432 * 262144 + z % 262144
 
--- MARKS: after, each of the first n is 0 where it was 0 and the test does not hold, and no other is; the array keeps its length
+-- MARKS: of the first n, exactly those are 0 after that were 0 before and of which the test does not hold; the array keeps its length
 pub record Marks (before after : List ℕ) (test : ℕ → Bool) (n : ℕ) : Type 0 where
   pub long : length after ≡ length before
   pub marked : (i : ℕ) → i < n → eqb (getD after i 0) 0 ≡ (eqb (getD before i 0) 0 && not (test i))

@@ -6,7 +6,7 @@ use mathlib.Core.Bool.{Bool, true, false, not, _&&_, _||_}
 use mathlib.Core.List.{List, [], _∷_}
 use lib.Dec.{ltb, eqb}
 use lib.ListN.{getD}
-use Rattle.laws.specs.Find.{any}
+use Rattle.laws.specs.Find.{any, names}
 use Rattle.laws.specs.Row.{pick}
 use Rattle.record.specs.declared.kind.Kind.{Kind}
 use Rattle.record.specs.declared.kind.Kind.the-variants.{Catalogo, ObPun, ObTex, ObLin, Tramo, Vertice, Nodo}
@@ -15,14 +15,15 @@ use Rattle.record.specs.declared.reason.Reason.the-variants as R
 use Rattle.record.specs.Table.{fileOf}
 use Rattle.record.specs.Says.{Table, placeIn}
 use Rattle.keys.specs.Delivery.{Delivery, nameAt, vertexKey, keyOf}
-use Rattle.keys.specs.Rules.{names, orFirst}
+use Rattle.keys.specs.Rules.{orFirst}
 use Rattle.laws.specs.Find.{firstIndex}
 
 -- the rule is read of this file at this field
 abbrev pub isAt : Kind → ℕ → Kind → ℕ → Bool
 isAt file field k f = eqb (fileOf k) (fileOf file) && eqb f field
 
--- the fields of X: of a position's or centroid's six fields the second; Y is the fourth, Z the sixth
+-- the fields of X: of a position's or centroid's six fields the second; Y is the fourth, Z the sixth. (Texts and centroids are held
+-- against nothing; their fields stand here for completeness.)
 abbrev pub xField : Kind → ℕ
 xField Catalogo = 0
 xField ObPun = 9
@@ -75,7 +76,8 @@ unfoldable pub meets : Delivery → ℕ → ℕ → Bool
 meets d key name =
     any (λ j. eqb (vertex d j) key && nodeIn (d Nodo) name (xAt Vertice (d Vertice) j) (yAt Vertice (d Vertice) j)) (d Vertice .count)
 
--- the vertex that has the key exists and lies elsewhere than the node
+-- the vertex that has the key exists and lies elsewhere than the node. (Where no lower ten is broken, keys are unique and there is one
+-- such vertex and one such node.)
 abbrev pub elsewhere : Delivery → ℕ → ℕ → Bool
 elsewhere d key name = hasVertex d key && not (meets d key name)
 
@@ -176,7 +178,7 @@ fifties d k i f =
     ∷ breaks59 d k i f
     ∷ []
 
--- the reasons; 54's with the number of the first earlier node at the place
+-- the reasons; 54's with the number of the first earlier node at the place. What stands in 58's place is never shown
 unfoldable pub fiftyReasons : Delivery → Kind → ℕ → ℕ → List Reason
 fiftyReasons d k i f =
     R.OrderGap50

@@ -154,7 +154,12 @@ fn first_apart<'a>(
 }
 
 // 52 and 53: the first tramo whose end lies elsewhere than its node.
-pub fn first_elsewhere<'a>(end: End, tramo: &'a [u8], vertice: &'a [u8], nodo: &'a [u8]) -> Found
+pub(crate) fn first_elsewhere<'a>(
+    end: End,
+    tramo: &'a [u8],
+    vertice: &'a [u8],
+    nodo: &'a [u8],
+) -> Found
     ensures { λ r. ⌜ r ≡ foundOf (firstIndex (apart end (deliveryOf (filesOf [] [] [] [] (now (tramo .entry)) (now (vertice .entry)) (now (nodo .entry))))) (tableOf (now (tramo .entry)) Kind.Tramo .count)) ⌝ }
 {
     let mut keys = [0u64; 16384];
@@ -187,7 +192,7 @@ fn first_endless_in<'a>(tramo: &'a [u8], keys: &'a [u64], order: &'a [usize], n:
 }
 
 // 59: the first tramo whose line has no vertex of highest order.
-pub fn first_endless<'a>(tramo: &'a [u8], vertice: &'a [u8]) -> Found
+pub(crate) fn first_endless<'a>(tramo: &'a [u8], vertice: &'a [u8]) -> Found
     ensures { λ r. ⌜ r ≡ foundOf (firstIndex (λ i. eqb (highestIn (keyOf Kind.Vertice (tableOf (now (vertice .entry)) Kind.Vertice)) (nameAt Kind.Tramo (tableOf (now (tramo .entry)) Kind.Tramo) i 4) (tableOf (now (vertice .entry)) Kind.Vertice .count)) 0) (tableOf (now (tramo .entry)) Kind.Tramo .count)) ⌝ }
 {
     let mut keys = [0u64; 16384];
@@ -228,7 +233,7 @@ fn first_astray_in<'a>(
 }
 
 // 55: the first point object that names a node and lies elsewhere.
-pub fn first_astray<'a>(ob_pun: &'a [u8], nodo: &'a [u8]) -> Found
+pub(crate) fn first_astray<'a>(ob_pun: &'a [u8], nodo: &'a [u8]) -> Found
     ensures { λ r. ⌜ r ≡ foundOf (firstIndex (pointElsewhere (deliveryOf (filesOf [] (now («ob_pun» .entry)) [] [] [] [] (now (nodo .entry))))) (tableOf (now («ob_pun» .entry)) Kind.ObPun .count)) ⌝ }
 {
     let mut ids = [0u64; 16384];

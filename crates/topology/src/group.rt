@@ -133,7 +133,7 @@ fn reason_in(u: usize, i: usize, nodo: &[u8]) -> Reason
 }
 
 // The first break of the fifties in file k.
-pub fn check_file<'a>(
+fn check_file<'a>(
     k: Kind,
     ob_pun: &'a [u8],
     ob_lin: &'a [u8],

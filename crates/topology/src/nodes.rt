@@ -19,14 +19,13 @@ ghost use mathlib.Core.Option.{none};
 ghost use Prim.Native.Nat.{ℕ, _+_, _*_, _%_, _≤_, _<_, _^_};
 ghost use lib.Dec.{eqb};
 ghost use lib.ListN.{length, getD};
-ghost use Rattle.laws.specs.Find.{firstIndex};
+ghost use Rattle.laws.specs.Find.{firstIndex, names};
 ghost use Rattle.laws.specs.Row.{pick};
 ghost use Rattle.index.specs.Keys.{foundOf};
 ghost use Rattle.index.specs.Order.{Index};
 ghost use Rattle.record.specs.Says.{tableOf};
 ghost use Rattle.keys.specs.Columns.{Fills};
 ghost use Rattle.keys.specs.Delivery.{filesOf, deliveryOf, nameAt};
-ghost use Rattle.keys.specs.Rules.{names};
 ghost use Rattle.topology.specs.Rules.{xAt, yAt, zAt, placed, samePlace, placedBefore, nodeUsed, objectIdle};
 ghost use Rattle.topology.specs.Places.{positionOf, spotOf, Marks};
 
@@ -40,7 +39,7 @@ fn same_place(nodo: &[u8], i: usize, j: usize) -> bool
 }
 
 // The first node before node i at its place, by scanning.
-pub fn place_before(nodo: &[u8], i: usize) -> Found
+pub(crate) fn place_before(nodo: &[u8], i: usize) -> Found
     ensures { λ r. ⌜ r ≡ foundOf (firstIndex (samePlace (tableOf (now (nodo .entry)) Kind.Nodo) i) i) ⌝ }
 {
     let mut j = 0;
@@ -105,7 +104,7 @@ fn shown_apart(nodo: &[u8]) -> bool
 }
 
 // 54: the first node at an earlier one's place. The scans run only where two nodes have one number.
-pub fn first_repeat_place(nodo: &[u8]) -> Found
+pub(crate) fn first_repeat_place(nodo: &[u8]) -> Found
     ensures { λ r. ⌜ r ≡ foundOf (firstIndex (placedBefore (tableOf (now (nodo .entry)) Kind.Nodo)) (tableOf (now (nodo .entry)) Kind.Nodo .count)) ⌝ }
 {
     if shown_apart(nodo) {
@@ -209,7 +208,7 @@ fn first_unmarked(used: &[u64; 16384], n: usize) -> Found
 }
 
 // 56: the first node that starts or ends no tramo, has the X and Y of no vertex, and is named by no point object.
-pub fn first_idle_node<'a>(
+pub(crate) fn first_idle_node<'a>(
     ob_pun: &'a [u8],
     tramo: &'a [u8],
     vertice: &'a [u8],
@@ -226,7 +225,7 @@ pub fn first_idle_node<'a>(
 }
 
 // 57: the first linear object that no tramo names.
-pub fn first_idle_object<'a>(ob_lin: &'a [u8], tramo: &'a [u8]) -> Found
+pub(crate) fn first_idle_object<'a>(ob_lin: &'a [u8], tramo: &'a [u8]) -> Found
     ensures { λ r. ⌜ r ≡ foundOf (firstIndex (objectIdle (deliveryOf (filesOf [] [] [] (now («ob_lin» .entry)) (now (tramo .entry)) [] []))) (tableOf (now («ob_lin» .entry)) Kind.ObLin .count)) ⌝ }
 {
     let mut used = [0u64; 16384];

@@ -70,7 +70,7 @@ fn first_alone_in(keys: &[u64], order: &[usize], n: usize) -> Found
 }
 
 // The first vertex that breaks 50.
-pub fn first_gap(vertice: &[u8]) -> Found
+pub(crate) fn first_gap(vertice: &[u8]) -> Found
     ensures { λ r. ⌜ r ≡ foundOf (firstIndex (gap (keyOf Kind.Vertice (tableOf (now (vertice .entry)) Kind.Vertice)) (tableOf (now (vertice .entry)) Kind.Vertice .count)) (tableOf (now (vertice .entry)) Kind.Vertice .count)) ⌝ }
 {
     let mut keys = [0u64; 16384];
@@ -84,7 +84,7 @@ pub fn first_gap(vertice: &[u8]) -> Found
 }
 
 // The first vertex that breaks 51.
-pub fn first_alone(vertice: &[u8]) -> Found
+pub(crate) fn first_alone(vertice: &[u8]) -> Found
     ensures { λ r. ⌜ r ≡ foundOf (firstIndex (alone (keyOf Kind.Vertice (tableOf (now (vertice .entry)) Kind.Vertice)) (tableOf (now (vertice .entry)) Kind.Vertice .count)) (tableOf (now (vertice .entry)) Kind.Vertice .count)) ⌝ }
 {
     let mut keys = [0u64; 16384];

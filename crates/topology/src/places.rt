@@ -17,7 +17,7 @@ ghost use Rattle.topology.specs.Rules.{xField, xAt, yAt, zAt, placed, no
 ghost use Rattle.topology.specs.Places.{positionOf};
 
 // The field of X; Y is two fields after it, Z four.
-pub fn x_field(k: Kind) -> usize
+pub(crate) fn x_field(k: Kind) -> usize
     ensures { λ r. ⌜ r ≡ xField k ⌝ }
     ensures small { λ r. ⌜ r ≤ 10 ⌝ }
 {
@@ -32,21 +32,21 @@ pub fn x_field(k: Kind) -> usize
     }
 }
 
-pub fn x_at(s: &[u8], k: Kind, i: usize) -> u64
+pub(crate) fn x_at(s: &[u8], k: Kind, i: usize) -> u64
     ensures { λ r. ⌜ r ≡ xAt k (tableOf (now (s .entry)) k) i ⌝ }
     ensures narrow { λ r. ⌜ r < 2 ^ 40 ⌝ }
 {
     place(s, k, i, x_field(k))
 }
 
-pub fn y_at(s: &[u8], k: Kind, i: usize) -> u64
+pub(crate) fn y_at(s: &[u8], k: Kind, i: usize) -> u64
     ensures { λ r. ⌜ r ≡ yAt k (tableOf (now (s .entry)) k) i ⌝ }
     ensures narrow { λ r. ⌜ r < 2 ^ 40 ⌝ }
 {
     place(s, k, i, x_field(k) + 2)
 }
 
-pub fn z_at(s: &[u8], k: Kind, i: usize) -> u64
+pub(crate) fn z_at(s: &[u8], k: Kind, i: usize) -> u64
     ensures { λ r. ⌜ r ≡ zAt k (tableOf (now (s .entry)) k) i ⌝ }
     ensures narrow { λ r. ⌜ r < 2 ^ 40 ⌝ }
 {
@@ -54,14 +54,14 @@ pub fn z_at(s: &[u8], k: Kind, i: usize) -> u64
 }
 
 // Whether record j is at X and Y.
-pub fn is_at(s: &[u8], k: Kind, j: usize, x: u64, y: u64) -> bool
+pub(crate) fn is_at(s: &[u8], k: Kind, j: usize, x: u64, y: u64) -> bool
     ensures { λ r. ⌜ r ≡ (eqb (xAt k (tableOf (now (s .entry)) k) j) x && eqb (yAt k (tableOf (now (s .entry)) k) j) y) ⌝ }
 {
     (x_at(s, k, j) == x) & (y_at(s, k, j) == y)
 }
 
 // Whether a record is at X and Y, by scanning.
-pub fn scan_placed(s: &[u8], k: Kind, x: u64, y: u64) -> bool
+pub(crate) fn scan_placed(s: &[u8], k: Kind, x: u64, y: u64) -> bool
     ensures { λ r. ⌜ r ≡ placed k (tableOf (now (s .entry)) k) (tableOf (now (s .entry)) k .count) x y ⌝ }
 {
     let n = rows(s, k);
@@ -76,7 +76,7 @@ pub fn scan_placed(s: &[u8], k: Kind, x: u64, y: u64) -> bool
 }
 
 // Whether a node with the name is at X and Y, by scanning.
-pub fn scan_node(nodo: &[u8], wanted: u64, x: u64, y: u64) -> bool
+pub(crate) fn scan_node(nodo: &[u8], wanted: u64, x: u64, y: u64) -> bool
     ensures { λ r. ⌜ r ≡ nodeIn (tableOf (now (nodo .entry)) Kind.Nodo) wanted x y ⌝ }
 {
     let n = rows(nodo, Kind::Nodo);
@@ -91,7 +91,7 @@ pub fn scan_node(nodo: &[u8], wanted: u64, x: u64, y: u64) -> bool
 }
 
 // Whether a node with the name is at X and Y. The node that is found by its id decides where it is there.
-pub fn node_at<'a>(
+pub(crate) fn node_at<'a>(
     nodo: &'a [u8],
     ids: &'a [u64],
     order: &'a [usize],
@@ -116,14 +116,14 @@ pub fn node_at<'a>(
 }
 
 // X and Y as one number: equal places have equal numbers. Of MIGRA's ranges all of Y and all but the highest bits of X count.
-pub fn position(x: u64, y: u64) -> u64
+pub(crate) fn position(x: u64, y: u64) -> u64
     ensures { λ r. ⌜ r ≡ positionOf x y ⌝ }
 {
     x % 536870912 * 34359738368 + y % 34359738368
 }
 
 // The position of each record of the file.
-pub fn fill_positions(s: &[u8], k: Kind, out: &mut [u64; 16384]) -> usize
+pub(crate) fn fill_positions(s: &[u8], k: Kind, out: &mut [u64; 16384]) -> usize
     requires { ⌜ length (now out) ≡ 16384 ⌝ }
     ensures { λ r. ⌜ Fills (now (out .exit)) (λ i. positionOf (xAt k (tableOf (now (s .entry)) k) i) (yAt k (tableOf (now (s .entry)) k) i)) (tableOf (now (s .entry)) k .count) r ⌝ }
 {
@@ -137,7 +137,7 @@ pub fn fill_positions(s: &[u8], k: Kind, out: &mut [u64; 16384]) -> usize
 }
 
 // Whether a record is at X and Y. No record is where none has the position; one that has it decides where it is there.
-pub fn has_placed<'a>(
+pub(crate) fn has_placed<'a>(
     s: &'a [u8],
     k: Kind,
     positions: &'a [u64],

@@ -1,16 +1,14 @@
 // The box's program: reads the seven files from the working directory and prints the verdict's one line. An absent file is an empty
 // one. Where a file is there and can't be read whole, no line is printed and the reason goes to standard error.
-use judge::judge::judge;
-use judge::line::line_of;
+use judge::line::program_line;
 use libc::STDOUT_FILENO;
 use record::cut::part;
 
-// Instead of a file's length: it has more than 8,192 bytes; or it can't be read, which was told on standard error.
-const BIG: usize = 8193;
-
+// Instead of a file's length: it can't be read, which was told on standard error.
 const FAILED: usize = 8194;
 
-// Reads to the end of the file, or until the room of one byte more than 8,192 is full, and answers how many bytes it read.
+// Reads to the end of the file, or until the room is full, and answers how many bytes it read. A room of one byte more than 8,192 is
+// enough: the line of a file that fills it is BIG, whatever follows.
 fn load_from(fd: i32, name: &[u8], buf: &mut [u8]) -> usize {
     let mut done = 0;
     while done < buf.len() {
@@ -25,7 +23,7 @@ fn load_from(fd: i32, name: &[u8], buf: &mut [u8]) -> usize {
         }
         done += n;
     }
-    BIG
+    done
 }
 
 fn load(name: &[u8], buf: &mut [u8]) -> usize {
@@ -42,21 +40,15 @@ fn load(name: &[u8], buf: &mut [u8]) -> usize {
     len
 }
 
-// The number of the first file of the length, and 0 where none is.
-fn first_of(lens: [usize; 7], len: usize) -> usize {
+fn any_failed(lens: [usize; 7]) -> bool {
     let mut i = 0;
     while i < 7 {
-        if lens[i] == len {
-            return i + 1;
+        if lens[i] == FAILED {
+            return true;
         }
         i += 1;
     }
-    0
-}
-
-fn say_big(file: usize) {
-    let line = [66u8, 73, 71, 32, 48 + (file % 10) as u8, 10];
-    io::write_all(STDOUT_FILENO, &line);
+    false
 }
 
 // Says what is to be said of files that were read: of each its length, and the room that it stands in.
@@ -70,15 +62,10 @@ fn say<'a>(
     vertice: &'a [u8],
     nodo: &'a [u8],
 ) {
-    if first_of(lens, FAILED) != 0 {
+    if any_failed(lens) {
         return;
     }
-    let big = first_of(lens, BIG);
-    if big != 0 {
-        say_big(big);
-        return;
-    }
-    let verdict = judge(
+    let line = program_line(
         part(catalogo, 0, lens[0]),
         part(ob_pun, 0, lens[1]),
         part(ob_tex, 0, lens[2]),
@@ -87,7 +74,6 @@ fn say<'a>(
         part(vertice, 0, lens[5]),
         part(nodo, 0, lens[6]),
     );
-    let line = line_of(verdict);
     let bytes = line.bytes;
     io::write_all(STDOUT_FILENO, part(&bytes, 0, line.len));
 }

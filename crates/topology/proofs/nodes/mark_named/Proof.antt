@@ -4,9 +4,9 @@ use Prim.Native.Nat.{_-_}
 use mathlib.Core.Logic.{⊎-elim}
 use mathlib.Core.Path.{sym, _∙_}
 use lib.ListN.{getD}
+use Rattle.laws.specs.Find.{names}
 use Rattle.record.specs.Says.{tableOf}
 use Rattle.keys.specs.Delivery.{nameAt}
-use Rattle.keys.specs.Rules.{names}
 use Rattle.topology.proofs.MarkLaws.{Marking, marking-none, marking-set, marking-keep, marking-end}
 use borrow.Author.Needs.{needs}
 use Rattle.topology.proofs.nodes.mark_named.Statement.{statement}

@@ -1,15 +1,15 @@
--- `verdict::first_of` is safe and ends.
+-- `verdict::any_failed` is safe and ends.
 -- Assumes nothing.
 use Prim.Native.Nat.{_-_, _≤_}
 use borrow.Author.Needs.{needs}
-use Rattle.verdict.proofs.first_of.Statement.{statement}
-use Rattle.verdict.proofs.first_of.Tie as tie
+use Rattle.verdict.proofs.any_failed.Statement.{statement}
+use Rattle.verdict.proofs.any_failed.Tie as tie
 
 abbrev Inv-loop : tie.InvT-loop
-Inv-loop len lens i₀ i = i ≤ 7
+Inv-loop lens i₀ i = i ≤ 7
 
 abbrev μ-loop : tie.MeasureT-loop
-μ-loop len lens i₀ i = 7 - i
+μ-loop lens i₀ i = 7 - i
 
 loop-holds : tie.Need-loop-holds Inv-loop μ-loop
 loop-holds c = search needs
@@ -19,9 +19,6 @@ mul-if1 c = search needs
 
 array-read-if1 : tie.Need-array-read-if1 Inv-loop μ-loop
 array-read-if1 c = search needs
-
-add-result : tie.Need-add-result Inv-loop μ-loop
-add-result c = search needs
 
 returns : tie.Need-returns Inv-loop μ-loop
 returns c = search needs
@@ -38,8 +35,8 @@ loop-again c = search needs
 returns-2 : tie.Need-returns-2 Inv-loop μ-loop
 returns-2 c = search needs
 
-pub first-of-spec : {M : Type 1} → statement M
-first-of-spec =
+pub any-failed-spec : {M : Type 1} → statement M
+any-failed-spec =
     tie.close
     (tie.spec
     Inv-loop
@@ -47,7 +44,6 @@ first-of-spec =
     loop-holds
     mul-if1
     array-read-if1
-    add-result
     returns
     add-i
     loop-less

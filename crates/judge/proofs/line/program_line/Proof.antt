@@ -1,0 +1,35 @@
+-- `judge::line::program_line` meets its contract.
+-- Assumes nothing.
+use Rattle.judge.proofs.LineLaws.{no-big-line, some-big-line}
+use borrow.Author.Needs.{needs}
+use Rattle.judge.proofs.line.program_line.Statement.{statement}
+use Rattle.judge.proofs.line.program_line.Tie as tie
+
+first-big-requires : tie.Need-first-big-requires
+first-big-requires c κs = search needs
+
+judge-requires : tie.Need-judge-requires
+judge-requires c κs = search needs
+
+line-of-requires : tie.Need-line-of-requires
+line-of-requires c κs = search needs
+
+big-line-requires : tie.Need-big-line-requires
+big-line-requires c κs = search needs
+
+returns : tie.Need-returns
+returns c = (no-big-line _ (c .before .before .before .first-big .ensures) (c .before .before .if1 .taken) (c .before .judge .ensures) (c .line-of .ensures .0), search needs)
+
+returns-2 : tie.Need-returns-2
+returns-2 c = (some-big-line _ (c .before .before .first-big .ensures) (c .before .if1 .left) (c .big-line .ensures .0), search needs)
+
+pub program-line-spec : {M : Type 1} → statement M
+program-line-spec =
+    tie.close
+    (tie.spec
+    first-big-requires
+    judge-requires
+    line-of-requires
+    big-line-requires
+    returns
+    returns-2)
