@@ -4,20 +4,19 @@ use Prim.Native.Nat.{ℕ, _+_, _-_, _^_, _≤_, _<_}
 use mathlib.Core.Bool.{Bool, true, false, not, _&&_, _||_}
 use mathlib.Core.List.{List, [], _∷_}
 use mathlib.Core.Option.{Option}
-use mathlib.Core.Path.{_≡_, refl, sym, ap, _∙_}
+use mathlib.Core.Path.{_≡_, refl, sym, _∙_}
 use native.Mathlib.Numerals.{add-one}
 use native.Mathlib.Decide.{decLe}
 use native.Mathlib.Omega.{arith}
 use types.Run.{hit, miss}
 use lib.Dec.{ltb, eqb}
 use lib.IntN.{natAbs}
-use lib.ListN.{length, getD, take, drop}
+use lib.ListN.{length, getD, take}
 use lib.Seq.{getD-take}
 use borrow.Author.Tests.{lt-ltb, le-ltb, eq-eqb, ne-eqb, eqb-false}
-use Rattle.laws.specs.Row.{pick, row, each}
+use Rattle.laws.specs.Row.{pick}
 use Rattle.laws.specs.Find.{firstOf}
 use Rattle.laws.specs.Nest.{run}
-use Rattle.laws.proofs.RowLaws.{length-row, row-at, each-more, each-stop, each-end}
 use Rattle.field.specs.declared.class.Class.the-variants.{Text}
 use Rattle.field.specs.Bytes.{allOf}
 use Rattle.field.specs.Texts.{firstBytes, notGiven}
@@ -244,54 +243,6 @@ partners-near k f = go (decLe f (fieldsOf k))
     go : Dec (f ≤ fieldsOf k) → (colAt k f .before ≤ f) × (colAt k f .after ≤ 14)
     go (yes l) = let p = partners-within k f l in (p .0, omega (arith, sane k, p .1))
     go (no m) = rw (col-past k f (omega arith)) (omega arith, omega arith)
-
--- whether each is written blank
-abbrev pub partner : Kind → (ℕ → Said) → ℕ → ℕ → Bool
-partner k s f j = blankAt k s (f - beforeAt k f + j)
-
-abbrev pub partners : Kind → (ℕ → Said) → ℕ → List Bool
-partners k s f = row (partner k s f) (beforeAt k f + afterAt k f + 1)
-
--- the loop's invariant: of n partners from a place on, those from j on tell whether all are blank
-pub record Left (k : Kind) (s : ℕ → Said) (f from n j : ℕ) : Type 0 where
-  pub within : j ≤ n
-  pub start : from ≡ f - beforeAt k f
-  pub count : n ≡ beforeAt k f + afterAt k f + 1
-  pub told : each (λ b. b) (drop j (partners k s f)) ≡ partnersMissing k s f
-
-pub left-all :
-    (k : Kind) (s : ℕ → Said) (f : ℕ) {from b c a : ℕ} → from ≡ f - b → b ≡ beforeAt k f → c ≡ beforeAt k f → a ≡ afterAt k f
-    → Left k s f from (c + a + 1) 0
-unfolding partnersMissing
-left-all k s f e p q r = record { within = omega arith; start = omega arith; count = omega arith; told = refl }
-
-module _ {k : Kind} {s : ℕ → Said} {f from n j : ℕ} (i : Left k s f from n j) where
-  long : length (partners k s f) ≡ n
-  long = length-row (partner k s f) (beforeAt k f + afterAt k f + 1) ∙ sym (i .count)
-
-  -- the code's r is the test of partner j
-  tested : (r : Bool) → r ≡ blankAt k s (from + j) → j < n → getD (partners k s f) j false ≡ r
-  tested r q h =
-      let l : j < beforeAt k f + afterAt k f + 1 = omega (arith, i .count) in
-      row-at (partner k s f) (beforeAt k f + afterAt k f + 1) false l ∙ ap (λ (m : ℕ). blankAt k s (m + j)) (sym (i .start)) ∙ sym q
-
-  pub left-near : j < n → from + j ≤ f + 14
-  left-near h = omega (arith, i .start, i .count, partners-near k f)
-
-  pub left-more : {r : Bool} → r ≡ blankAt k s (from + j) → j < n → r ≡ true → Left k s f from n (j + 1)
-  left-more {r} q h y =
-      record {
-        within = omega arith;
-        start = i .start;
-        count = i .count;
-        told = each-more (λ b. b) (partners k s f) j false (omega (arith, long)) (tested r q h ∙ y) ∙ i .told;
-      }
-
-  pub left-stop : {r : Bool} → r ≡ blankAt k s (from + j) → j < n → r ≡ false → false ≡ partnersMissing k s f
-  left-stop {r} q h y = sym (each-stop (λ b. b) (partners k s f) j false (omega (arith, long)) (tested r q h ∙ y)) ∙ i .told
-
-  pub left-none : n ≤ j → true ≡ partnersMissing k s f
-  left-none h = sym (each-end (λ b. b) (partners k s f) j (omega (arith, long))) ∙ i .told
 
 -- THE FIRST REFUSAL of a field, and of the values
 unfoldable pub inValues : Kind → (ℕ → Said) → ℕ → Option Break

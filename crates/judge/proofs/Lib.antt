@@ -1,6 +1,7 @@
 pub mod JudgeLaws
 pub mod SameFiles
 pub mod LineLaws
+pub mod CutShort
 pub mod FreeWords
 pub mod NoneBroken
 pub mod Made

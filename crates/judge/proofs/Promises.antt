@@ -5,7 +5,7 @@ use Prim.Native.Nat.{ℕ, _-_, _≤_}
 use mathlib.Core.Bool.{true, false}
 use mathlib.Core.List.{List, map, _++_}
 use mathlib.Core.Path.{_≡_, sym, _∙_}
-use lib.ListN.{length, drop, getD}
+use lib.ListN.{length, take, drop, getD}
 use Rattle.record.specs.declared.kind.Kind.{Kind}
 use Rattle.record.specs.declared.kind.Which.the-variants.{File}
 use Rattle.record.specs.declared.reason.Reason.{Reason}
@@ -22,6 +22,7 @@ use Rattle.codec.specs.Calls.{readOf, Writes}
 use Rattle.codec.proofs.Theorems as one
 use Rattle.judge.specs.declared.judge.Verdict.{Verdict}
 use Rattle.judge.specs.Verdict.{Files, judged, verdictOf}
+use Rattle.judge.specs.Line.{programLine}
 use Rattle.judge.specs.Broken.{Judges}
 use Rattle.judge.specs.Words.{SameButWords}
 use Rattle.judge.specs.Obeys.{Records, Obeys, madeOf, accepted, Shuffled}
@@ -29,6 +30,7 @@ use Rattle.judge.specs.Cases.{outcome, table}
 use Rattle.judge.proofs.Exact as exactly
 use Rattle.judge.proofs.FreeWords as words
 use Rattle.judge.proofs.Writer as writer
+use Rattle.judge.proofs.CutShort as short
 use Rattle.judge.proofs.Cases as cases
 
 -- 1. LENT MEMORY: a refusal leaves every byte; success writes at the start of the room and touches no other byte.
@@ -85,6 +87,10 @@ writer-promise-any-order = writer.writer-promise-any-order
 -- Free words: two deliveries that differ only in the names, LITERAL and DEFINICI, all lawful, get the same verdict.
 pub free-words : (files others : Files) → SameButWords files others → verdictOf files ≡ verdictOf others
 free-words = words.free-words
+
+-- The verdict program reads no more than 8,193 bytes of a file, and its line is that of the whole files.
+pub program-reads-enough : (files cut : Files) → ((k : Kind) → cut k ≡ take 8193 (files k)) → programLine cut ≡ programLine files
+program-reads-enough = short.cut-short
 
 -- 4. TIGHT: for each call, any two outcomes that its contract allows coincide.
 pub one-verdict : (files : Files) (v w : Verdict) → v ≡ verdictOf files → w ≡ verdictOf files → v ≡ w

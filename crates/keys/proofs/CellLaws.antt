@@ -230,39 +230,66 @@ module _ {tests : Tests} {k : Kind} {n m c : ℕ} {b : Best} (s : Sifted tests k
     pub sifted-fine : (reasons : Reasons) → b .found ≡ false → Fine ≡ groupFinding tests reasons k n
     sifted-fine reasons h = best-fine (cellTest tests) n (cellsOf k) sifted-all (cellAnswer reasons k) h ∙ sym (group-is tests reasons k n)
 
--- OVER THE FILES: what a file's number gives
-unfoldable pub fileBreak : (Kind → Finding) → ℕ → Option Break
-fileBreak g n = breakIn (atFile g (whichOf n))
-
+-- OVER FINDINGS by their number
 break-finding : (v : Finding) → v ≡ findingOf (breakIn v)
 break-finding Fine = refl
 break-finding (Broken b) = refl
 
--- the invariant of a loop over the files: those before number n give nothing
+unfoldable breakAt : (ℕ → Finding) → ℕ → Option Break
+breakAt g n = breakIn (g n)
+
+-- the invariant of a loop over m of them: those before number n give nothing
+pub record Fines (g : ℕ → Finding) (m n : ℕ) : Type 0 where
+  pub within : n ≤ m
+  past : firstOf (breakAt g) n ≡ none
+
+pub fines-start : (g : ℕ → Finding) (m : ℕ) → Fines g m 0
+fines-start g m = record { within = omega arith; past = first-start _ }
+
+module _ {g : ℕ → Finding} {m n : ℕ} (s : Fines g m n) where
+  pub fines-end : m ≤ n → Fine ≡ findingOf (firstOf (λ i. breakIn (g i)) m)
+  unfolding breakAt
+  fines-end l = finding-end (breakAt g) m refl (s .within) l (s .past)
+
+  -- v is what number n gives, and r whether that is nothing
+  module _ {v : Finding} {r : Bool} (l : n < m) (h : v ≡ g n) (q : r ≡ fine v) where
+    turn : v ≡ findingOf (breakAt g n)
+    unfolding breakAt
+    turn = h ∙ break-finding _
+
+    pub fines-more : r ≡ true → Fines g m (n + 1)
+    fines-more y = record { within = omega arith; past = finding-more (breakAt g) n turn (sym q ∙ y) (s .past) }
+
+    pub fines-here : r ≡ false → v ≡ findingOf (firstOf (λ i. breakIn (g i)) m)
+    unfolding breakAt
+    fines-here y = finding-here (breakAt g) m turn (sym q ∙ y) (s .past) l
+
+-- OVER THE FILES: what a file's number gives
+unfoldable fileAt : (Kind → Finding) → ℕ → Finding
+fileAt g n = atFile g (whichOf n)
+
 pub record Onward (g : Kind → Finding) (n : ℕ) : Type 0 where
-  pub within : n ≤ 8
-  pub past : firstOf (fileBreak g) n ≡ none
+  past : Fines (fileAt g) 8 n
 
 pub files-start : (g : Kind → Finding) → Onward g 0
-files-start g = record { within = omega arith; past = first-start _ }
+files-start g = record { past = fines-start _ _ }
 
 module _ {g : Kind → Finding} {n : ℕ} (s : Onward g n) where
   pub files-end : 8 ≤ n → Fine ≡ overFiles g
-  unfolding overFiles fileBreak
-  files-end l = finding-end (fileBreak g) {n = 8} 8 refl (s .within) l (s .past)
+  unfolding overFiles fileAt
+  files-end l = fines-end (s .past) l
 
-  -- v is what number n gives, and r whether that is nothing
   module _ {w : Which} {v : Finding} {r : Bool} (l : n < 8) (e : w ≡ whichOf n) (h : v ≡ atFile g w) (q : r ≡ fine v) where
-    turn : v ≡ findingOf (fileBreak g n)
-    unfolding fileBreak
-    turn = h ∙ ap (atFile g) e ∙ break-finding _
+    numbered : v ≡ fileAt g n
+    unfolding fileAt
+    numbered = h ∙ ap (atFile g) e
 
     pub files-more : r ≡ true → Onward g (n + 1)
-    files-more y = record { within = omega arith; past = finding-more (fileBreak g) n turn (sym q ∙ y) (s .past) }
+    files-more y = record { past = fines-more (s .past) l numbered q y }
 
     pub files-here : r ≡ false → v ≡ overFiles g
-    unfolding overFiles fileBreak
-    files-here y = finding-here (fileBreak g) 8 turn (sym q ∙ y) (s .past) l
+    unfolding overFiles fileAt
+    files-here y = fines-here (s .past) l numbered q y
 
 -- THE CELLS of the thirties and forties, as the code finds their first records: own are the file's bytes, and r what was found
 pub first-false : (p : ℕ → Bool) (n : ℕ) → ((i : ℕ) → p i ≡ false) → Nothing ≡ foundOf (firstIndex p n)

@@ -2,12 +2,13 @@
 -- Assumes nothing.
 use Prim.Native.Nat.{ℕ, _+_, _<_, _≤_}
 use mathlib.Core.Bool.{Bool, true, false}
-use mathlib.Core.Option.{none}
-use mathlib.Core.Path.{_≡_, sym, ap}
+use mathlib.Core.Option.{Option, none, some}
+use mathlib.Core.Path.{_≡_, refl, sym, ap, _∙_}
 use native.Mathlib.Omega.{arith}
-use Rattle.laws.specs.Find.{firstIndex, any}
+use Rattle.laws.specs.Find.{isSome, firstIndex, any}
 use Rattle.laws.proofs.FindLaws.{index-start, index-more, index-here, index-end, any-here, any-none}
 use Rattle.index.specs.Keys.{foundOf}
+use Rattle.index.specs.declared.Found.{Found}
 use Rattle.index.specs.declared.Found.the-variants.{At, Nothing}
 
 -- the loop's invariant: i indices of n are passed, and the test holds at none of them
@@ -35,3 +36,21 @@ module _ {p : ℕ → Bool} {n i : ℕ} (s : Passed p n i) where
 
     pub any-end : n ≤ i → false ≡ any p m
     any-end u = sym (any-none p m (index-end p m e (s .under) u (s .past)))
+
+-- A SEARCH'S ANSWER says whether there is one
+found-some : {j : ℕ} (o : Option ℕ) → foundOf o ≡ At j → isSome o ≡ true
+found-some none e = let z : _≡_ {A = ℕ} 0 1 = cc in absurd (omega arith)
+found-some (some k) e = refl
+
+found-none : (o : Option ℕ) → foundOf o ≡ Nothing → isSome o ≡ false
+found-none none e = refl
+found-none (some k) e = let z : _≡_ {A = ℕ} 0 1 = cc in absurd (omega arith)
+
+module _ (p : ℕ → Bool) (n : ℕ) {f : Found} (e : f ≡ foundOf (firstIndex p n)) where
+  pub any-of-found : {j : ℕ} → f ≡ At j → any p n ≡ true
+  unfolding any
+  any-of-found q = found-some (firstIndex p n) (sym e ∙ q)
+
+  pub any-of-nothing : f ≡ Nothing → any p n ≡ false
+  unfolding any
+  any-of-nothing q = found-none (firstIndex p n) (sym e ∙ q)

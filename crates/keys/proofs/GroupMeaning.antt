@@ -139,7 +139,7 @@ unfolding keysIn keysBroken
 keys-means t d k = group-means t (λ t'. keyTests t' d k) (keyReasons t d k) k (d k .count) (key-numbered t d k)
 
 -- OVER THE FILES
-which-file : (k : Kind) → whichOf (fileOf k) ≡ File k
+pub which-file : (k : Kind) → whichOf (fileOf k) ≡ File k
 unfolding whichOf
 which-file K.Catalogo = refl
 which-file K.ObPun = refl

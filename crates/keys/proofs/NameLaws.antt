@@ -1,48 +1,30 @@
 -- How records are named (specs/Delivery.antt), as the code reads it: what a field refers to, a tramo's own line, keys.
 -- Assumes nothing.
-use Prim.Native.Nat.{ℕ, zero, suc, _+_, _*_, _≤_}
+use Prim.Native.Nat.{ℕ, _+_, _*_}
 use mathlib.Core.Bool.{Bool, true, false}
 use mathlib.Core.List.{List, [], _∷_}
-use mathlib.Core.Path.{_≡_, refl, sym}
+use mathlib.Core.Path.{_≡_, refl}
 use native.Mathlib.Omega.{arith}
 use denote.Enum.Declared.{tagOf}
 use types.Run.{OneOf, miss}
 use borrow.Author.Tests.{ne-eqb}
-use lib.ListN.{length, drop, List·getD-eq-default, getD}
+use lib.ListN.{length, drop}
 use Rattle.laws.specs.Row.{pick}
 use Rattle.record.specs.declared.kind.Kind.{Kind}
 use Rattle.record.specs.declared.kind.Kind.the-variants.{Catalogo, ObPun, ObTex, ObLin, Tramo, Vertice, Nodo}
 use Rattle.record.specs.Table.{colAt, formAt}
 use Rattle.record.specs.Says.{Table, saidIn, tableOf, isMissing, numberIn, keyIn}
 use Rattle.record.proofs.SaysLaws.{number-key}
+use Rattle.record.proofs.TableLaws.{NoneOf, numbers, after, default-at}
 use Rattle.record.proofs.kind.Kind.{the-type}
-use Rattle.keys.specs.declared.names.Target.{Target}
 use Rattle.keys.specs.declared.names.Target.the-variants.{Free}
 use Rattle.keys.specs.Delivery.{ownLine, nameAt, keyOf, targets, targetOf}
 
--- TARGETS: n is none of the m numbers from a, as the rest of a `match` says it
-abbrev pub Skips : ℕ → ℕ → ℕ → Type 0
-Skips a zero n = Unit {0}
-Skips a (suc m) n = Skips a m n × (n ≡ a + m → ⊥)
-
-skips-past : (a m n : ℕ) → Skips a m n → a ≤ n → a + m ≤ n
-skips-past a zero n s l = omega arith
-skips-past a (suc m) n s l = let h = skips-past a m n (s .0) l in let d = s .1 in omega arith
-
--- the list after a fields that refer to nothing
-abbrev pub frees : ℕ → List Target → List Target
-frees zero ts = ts
-frees (suc a) ts = Free ∷ frees a ts
-
-free-past : (a : ℕ) (ts : List Target) (n : ℕ) → (a ≤ n → a + length ts ≤ n) → Free ≡ getD (frees a ts) n Free
-free-past zero ts n h = sym (List·getD-eq-default ts Free {n = n} (omega (arith, h (omega arith))))
-free-past (suc a) ts zero h = refl
-free-past (suc a) ts (suc n) h = free-past a ts n (λ l. omega (arith, h (omega arith)))
-
--- where the first a fields refer to nothing, so does every field that is none of those listed after them
-pub free-rest : (a : ℕ) (j : Kind) {k : Kind} (f : ℕ) → k ≡ j → targets j ≡ frees a (drop a (targets j)) → Skips a (length (drop a (targets j))) f → Free ≡ targetOf k f
+-- TARGETS: where the first a fields refer to nothing, so does every field that is none of those listed after them
+pub free-rest : (a : ℕ) (j : Kind) {k : Kind} (f : ℕ) → k ≡ j → targets j ≡ after Free a (drop a (targets j)) → NoneOf (numbers a (length (drop a (targets j)))) f
+    → Free ≡ targetOf k f
 unfolding targetOf
-free-rest a j f e t s = rw (e, t) (free-past a (drop a (targets j)) f (skips-past a (length (drop a (targets j))) f s))
+free-rest a j f e t o = rw (e, t) (default-at Free a (drop a (targets j)) f o)
 
 -- KINDS of the rest of a `match` after one of them, by their places in the enum
 abbrev pub Among : List ℕ → Kind → Type 0

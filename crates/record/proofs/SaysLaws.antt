@@ -1,6 +1,6 @@
--- What the code reads of a field, by its form: what it says (specs/Says.antt), that it is not given, that its partners are blank (specs/Rules.antt).
+-- What the code reads of a field, by its form: what it says (specs/Says.antt), that it is not given (specs/Rules.antt).
 -- Assumes nothing.
-use Prim.Native.Nat.{ℕ, zero, suc, _+_, _-_, _≤_, _<_}
+use Prim.Native.Nat.{ℕ, zero, suc, _+_, _≤_, _<_}
 use mathlib.Core.Bool.{Bool, true, false, not, _&&_}
 use mathlib.Core.List.{List, [], _∷_}
 use mathlib.Core.Path.{_≡_, refl, sym, ap, _∙_}
@@ -10,10 +10,9 @@ use denote.Enum.Declared.{tagOf}
 use types.Run.{OneOf, miss}
 use lib.Dec.{eqb}
 use lib.IntN.{ℤ, pos, negsuc}
-use lib.ListN.{length, getD, drop}
-use Rattle.laws.specs.Row.{pick, row, each}
+use lib.ListN.{length, getD}
+use Rattle.laws.specs.Row.{pick}
 use Rattle.laws.proofs.FindLaws.{true-false}
-use Rattle.laws.proofs.RowLaws.{length-row, row-at, each-more, each-stop, each-end}
 use Rattle.field.specs.declared.class.Class.the-variants.{Blank}
 use Rattle.field.specs.Bytes.{allOf}
 use Rattle.field.specs.Digits.{numberOf}
@@ -22,12 +21,9 @@ use Rattle.field.specs.Texts.{trimmed, firstBytes, notGiven, wordOf}
 use Rattle.field.proofs.DigitLaws.{blank-number}
 use Rattle.field.proofs.TextLaws.{trimmed-le, trimmed-first, trimmed-some, trimmed-same, first-bytes-le, word-some}
 use Rattle.field.proofs.TextLoops.{length-trimmed}
-use Rattle.record.specs.declared.kind.Kind.{Kind}
 use Rattle.record.specs.declared.kind.Form.{Form}
 use Rattle.record.specs.declared.kind.Form.the-variants.{Words, Code, Tipo, Sense, Sign, Number, Size}
-use Rattle.record.specs.Table.{beforeAt, afterAt, isN}
-use Rattle.record.specs.Cut.{textOf}
-use Rattle.record.specs.Rules.{partnersBlank}
+use Rattle.record.specs.Table.{isN}
 use Rattle.record.specs.Says.{Said, missing, number, text, coordinate, saidAs, isMissing, numberIn, coordinateIn, keyIn, letterIn, placeOf, placeIn, textSaid}
 use Rattle.record.proofs.kind.Form.{the-type}
 
@@ -310,47 +306,3 @@ key-same p q t b u c n hp hq bt bu =
 pub not-given-trimmed : (t : List ℕ) {len : ℕ} → len ≡ length (trimmed t) → notGiven (firstBytes len t) ≡ notGiven (trimmed t)
 unfolding trimmed
 not-given-trimmed t e = rw (e, first-bytes-le _ t (trimmed-le t), length-trimmed)
-
--- the texts of a field and its partners
-abbrev pub partner : List ℕ → Kind → ℕ → ℕ → List ℕ
-partner s k f j = textOf s k (f - beforeAt k f + j)
-
-abbrev pub partners : List ℕ → Kind → ℕ → List (List ℕ)
-partners s k f = row (partner s k f) (beforeAt k f + afterAt k f + 1)
-
--- the loop's invariant: of n partners from a place on, those from j on tell whether all are blank
-pub record Left (s : List ℕ) (k : Kind) (f from n j : ℕ) : Type 0 where
-  pub within : j ≤ n
-  pub start : from ≡ f - beforeAt k f
-  pub count : n ≡ beforeAt k f + afterAt k f + 1
-  pub told : each (allOf Blank) (drop j (partners s k f)) ≡ partnersBlank s k f
-
-pub left-all : (s : List ℕ) (k : Kind) (f : ℕ) {from b c a : ℕ} → from ≡ f - b → b ≡ beforeAt k f → c ≡ beforeAt k f → a ≡ afterAt k f
-    → Left s k f from (c + a + 1) 0
-unfolding partnersBlank
-left-all s k f e p q r = record { within = omega arith; start = omega arith; count = omega arith; told = refl }
-
-module _ {s : List ℕ} {k : Kind} {f from n j : ℕ} (i : Left s k f from n j) where
-  long : length (partners s k f) ≡ n
-  long = length-row (partner s k f) (beforeAt k f + afterAt k f + 1) ∙ sym (i .count)
-
-  -- the code's r is the test of partner j
-  tested : (r : Bool) → r ≡ allOf Blank (textOf s k (from + j)) → j < n → allOf Blank (getD (partners s k f) j []) ≡ r
-  tested r q h =
-      let l : j < beforeAt k f + afterAt k f + 1 = omega (arith, i .count) in
-      ap (allOf Blank) (row-at (partner s k f) (beforeAt k f + afterAt k f + 1) [] l ∙ ap (λ (m : ℕ). textOf s k (m + j)) (sym (i .start))) ∙ sym q
-
-  pub left-more : {r : Bool} → r ≡ allOf Blank (textOf s k (from + j)) → j < n → r ≡ true → Left s k f from n (j + 1)
-  left-more {r} q h y =
-      record {
-        within = omega arith;
-        start = i .start;
-        count = i .count;
-        told = each-more (allOf Blank) (partners s k f) j [] (omega (arith, long)) (tested r q h ∙ y) ∙ i .told;
-      }
-
-  pub left-stop : {r : Bool} → r ≡ allOf Blank (textOf s k (from + j)) → j < n → r ≡ false → false ≡ partnersBlank s k f
-  left-stop {r} q h y = sym (each-stop (allOf Blank) (partners s k f) j [] (omega (arith, long)) (tested r q h ∙ y)) ∙ i .told
-
-  pub left-none : n ≤ j → true ≡ partnersBlank s k f
-  left-none h = sym (each-end (allOf Blank) (partners s k f) j (omega (arith, long))) ∙ i .told

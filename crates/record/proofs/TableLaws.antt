@@ -28,18 +28,32 @@ each-getD p [] d h e i = h
 each-getD p (x ∷ xs) d h e zero = and-true (p x) (each p xs) e .0
 each-getD p (x ∷ xs) d h e (suc i) = each-getD p xs d h (and-true (p x) (each p xs) e .1) i
 
--- n is none of 1, .., m, as the rest of a `match` says it: there the default stands, first and past the end
-abbrev pub Others : ℕ → ℕ → Type 0
-Others zero n = Unit {0}
-Others (suc m) n = Others m n × (n ≡ suc m → ⊥)
+-- THE REST OF A MATCH: n is none of the numbers, the last of them first
+abbrev pub NoneOf : List ℕ → ℕ → Type 0
+NoneOf [] n = Unit {0}
+NoneOf (x ∷ xs) n = NoneOf xs n × (n ≡ x → ⊥)
 
-others-past : (m n : ℕ) → Others m n → 1 ≤ n → m < n
-others-past zero n o l = l
-others-past (suc m) n o l = let h = others-past m n (o .0) l in let d = o .1 in omega arith
+-- the m numbers from a, the last first
+abbrev pub numbers : ℕ → ℕ → List ℕ
+numbers a zero = []
+numbers a (suc m) = (a + m) ∷ numbers a m
 
-default-at : {A : Type 0} (d : A) (xs : List A) (n : ℕ) → Others (length xs) n → d ≡ getD (d ∷ xs) n d
-default-at d xs zero o = refl
-default-at d xs (suc n) o = sym (List·getD-eq-default xs d {n = n} (le-of-suc-le-suc (others-past (length xs) (suc n) o (omega arith))))
+none-past : (a m n : ℕ) → NoneOf (numbers a m) n → a ≤ n → a + m ≤ n
+none-past a zero n o l = omega arith
+none-past a (suc m) n o l = let h = none-past a m n (o .0) l in let d = o .1 in omega arith
+
+-- a list after a times its default: this stands at each number that is none of the list's
+abbrev pub after : {A : Type 0} → A → ℕ → List A → List A
+after d zero xs = xs
+after d (suc a) xs = d ∷ after d a xs
+
+default-past : {A : Type 0} (d : A) (a : ℕ) (xs : List A) (n : ℕ) → (a ≤ n → a + length xs ≤ n) → d ≡ getD (after d a xs) n d
+default-past d zero xs n h = sym (List·getD-eq-default xs d {n = n} (omega (arith, h (omega arith))))
+default-past d (suc a) xs zero h = refl
+default-past d (suc a) xs (suc n) h = default-past d a xs n (λ l. omega (arith, h (omega arith)))
+
+pub default-at : {A : Type 0} (d : A) (a : ℕ) (xs : List A) (n : ℕ) → NoneOf (numbers a (length xs)) n → d ≡ getD (after d a xs) n d
+default-at d a xs n o = default-past d a xs n (none-past a (length xs) n o)
 
 -- THE KINDS, in the order of their numbers; what a test of all says of one
 abbrev pub kinds : List Kind
@@ -194,13 +208,13 @@ form-code Sign = refl
 form-code Number = refl
 form-code Size = refl
 
-pub form-rest : (n : ℕ) → Others 6 n → Words ≡ formOf n
+pub form-rest : (n : ℕ) → NoneOf (numbers 1 6) n → Words ≡ formOf n
 unfolding formOf
-form-rest n o = default-at Words (Code ∷ Tipo ∷ Sense ∷ Sign ∷ Number ∷ Size ∷ []) n o
+form-rest n o = default-at Words 1 (Code ∷ Tipo ∷ Sense ∷ Sign ∷ Number ∷ Size ∷ []) n o
 
-pub which-rest : (n : ℕ) → Others 7 n → NoFile ≡ whichOf n
+pub which-rest : (n : ℕ) → NoneOf (numbers 1 7) n → NoFile ≡ whichOf n
 unfolding whichOf
-which-rest n o = default-at NoFile (map File kinds) n o
+which-rest n o = default-at NoFile 1 (map File kinds) n o
 
 pub one-picked : (b : Bool) → eqb (pick b 1 0) 1 ≡ b
 one-picked true = refl

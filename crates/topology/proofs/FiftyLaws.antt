@@ -24,7 +24,7 @@ use Rattle.record.specs.declared.reason.Reason.the-variants.{LongFile10, SamePl
 use Rattle.record.specs.declared.reason.Break.{Break}
 use Rattle.record.specs.Table.{fileOf}
 use Rattle.record.specs.Breaks.{breakOf}
-use Rattle.record.proofs.TableLaws.{kinds, kind-at}
+use Rattle.record.proofs.TableLaws.{NoneOf, kinds, kind-at}
 use Rattle.keys.specs.Delivery.{Delivery, filesOf, deliveryOf}
 use Rattle.keys.specs.Rules.{orFirst}
 use Rattle.keys.proofs.CellLaws.{first-false}
@@ -49,11 +49,6 @@ else-from (past h o) (suc v) e = else-from o v (omega arith)
 
 else-default : {A : Type 0} {d : A} {u : ℕ} {xs : List A} → Else d u 0 xs → getD xs u d ≡ d
 else-default {u = u} o = else-from o u (omega arith)
-
--- u is none of the numbers, as the rest of a `match` says it, the last of them first
-abbrev pub NoneOf : List ℕ → ℕ → Type 0
-NoneOf [] u = Unit {0}
-NoneOf (x ∷ xs) u = NoneOf xs u × (u ≡ x → ⊥)
 
 -- WHERE A RULE IS READ
 same-kind : (k file : Kind) → fileOf k ≡ fileOf file → k ≡ file

@@ -4,15 +4,15 @@
 use Prim.Native.Nat.{ℕ, _<_}
 use mathlib.Core.Bool.{Bool, true, false, not, _&&_}
 use mathlib.Core.List.{List}
-use mathlib.Core.Option.{Option, none, some}
+use mathlib.Core.Option.{none}
 use mathlib.Core.Path.{_≡_, refl, sym, ap₂, _∙_}
 use native.Mathlib.Omega.{arith}
 use lib.Dec.{eqb}
 use borrow.Author.Tests.{eqb-true, eqb-false, eq-eqb}
-use Rattle.laws.specs.Find.{isSome, firstIndex, any}
+use Rattle.laws.specs.Find.{firstIndex, any}
 use Rattle.laws.proofs.FindLaws.{any-true, any-false, any-no}
 use Rattle.laws.proofs.RowLaws.{and-true}
-use Rattle.index.specs.Keys.{foundOf, listed, repeated}
+use Rattle.index.specs.Keys.{listed, repeated}
 use Rattle.index.specs.Look.{Sought}
 use Rattle.index.specs.declared.Found.{Found}
 use Rattle.index.specs.declared.Found.the-variants.{At, Nothing}
@@ -64,24 +64,6 @@ pub same-position : (a b x y : ℕ) → (eqb a x && eqb b y) ≡ true → positi
 same-position a b x y e =
     let h = and-true (eqb a x) (eqb b y) e in
     ap₂ positionOf (eqb-true a x (h .0)) (eqb-true b y (h .1))
-
--- A SEARCH'S ANSWER says whether there is one
-found-some : {j : ℕ} (o : Option ℕ) → foundOf o ≡ At j → isSome o ≡ true
-found-some none e = let z : _≡_ {A = ℕ} 0 1 = cc in absurd (omega arith)
-found-some (some k) e = refl
-
-found-none : (o : Option ℕ) → foundOf o ≡ Nothing → isSome o ≡ false
-found-none none e = refl
-found-none (some k) e = let z : _≡_ {A = ℕ} 0 1 = cc in absurd (omega arith)
-
-module _ (p : ℕ → Bool) (n : ℕ) {f : Found} (e : f ≡ foundOf (firstIndex p n)) where
-  pub any-of-found : {j : ℕ} → f ≡ At j → any p n ≡ true
-  unfolding any
-  any-of-found q = found-some (firstIndex p n) (sym e ∙ q)
-
-  pub any-of-nothing : f ≡ Nothing → any p n ≡ false
-  unfolding any
-  any-of-nothing q = found-none (firstIndex p n) (sym e ∙ q)
 
 -- NODES AT ONE PLACE have one spot; where no spot is repeated, none is at an earlier one's place
 abbrev pub spotAt : Table → ℕ → ℕ

@@ -134,7 +134,7 @@ fn say_reading(file: usize, bytes: &[u8], n: usize, r: Reading)
                 Which::NoFile => say(b" ?\n"),
                 Which::File(k) => {
                     say_values(k, values);
-                    say_same(file, values, record::cut::record_bytes(bytes, k, n - 1));
+                    say_same(file, values, file::bytes_of(bytes, k, n - 1));
                 }
             }
         }
@@ -157,7 +157,7 @@ fn one_more(n: usize) -> usize {
 fn records_of(file: usize, bytes: &[u8]) -> usize {
     match kind_of(file) {
         Which::NoFile => 1,
-        Which::File(k) => one_more(record::cut::records(bytes, k)),
+        Which::File(k) => one_more(file::count_of(bytes, k)),
     }
 }
 

@@ -3,13 +3,15 @@
 use Prim.Native.Nat.{_-_}
 use native.Mathlib.Omega.{arith}
 use borrow.Author.Needs.{needs}
+use Rattle.laws.proofs.RowLaws.{Left, left-all, left-more, left-stop, left-none}
 use Rattle.codec.specs.Values.{valuesSay}
-use Rattle.codec.proofs.RefuseLaws.{Left, left-all, left-near, left-more, left-stop, left-none}
+use Rattle.codec.specs.Refusals.{blankAt, partnersMissing}
+use Rattle.codec.proofs.RefuseLaws.{partners-near}
 use Rattle.codec.proofs.refuse.partners_missing.Statement.{statement}
 use Rattle.codec.proofs.refuse.partners_missing.Tie as tie
 
 abbrev Inv-loop : tie.InvT-loop
-Inv-loop k v f from n j₀ j = Left k (valuesSay k v) f from n j
+Inv-loop k v f from n j₀ j = Left (λ b. b) (blankAt k (valuesSay k v)) (partnersMissing k (valuesSay k v) f) from n j
 
 abbrev μ-loop : tie.MeasureT-loop
 μ-loop k v f from n j₀ j = n - j
@@ -33,16 +35,16 @@ add-n-2 : tie.Need-add-n-2 Inv-loop μ-loop
 add-n-2 c = omega arith
 
 loop-holds : tie.Need-loop-holds Inv-loop μ-loop
+unfolding partnersMissing
 loop-holds c =
-    let b = c .before .before .before in
-    let a = b .before .args in
-    left-all (a .k) (valuesSay (a .k) (a .v)) (a .f) (c .before .before .minus .ensures) (b .before2 .ensures .0) (c .before .before3 .ensures .0) (c .after .ensures .0)
+    let a = c .before .before .before .before .args in
+    left-all (λ b. b) (blankAt (a .k) (valuesSay (a .k) (a .v))) (omega arith) (omega arith)
 
 add-blank-at : tie.Need-add-blank-at Inv-loop μ-loop
-add-blank-at c = omega (arith, left-near (c .before .loop .inv) (c .loop-test .taken))
+add-blank-at c = let a = c .before .before .before .before .before .before .args in omega (arith, partners-near (a .k) (a .f))
 
 blank-at-requires : tie.Need-blank-at-requires Inv-loop μ-loop
-blank-at-requires c κs = omega (arith, left-near (c .before .loop .inv) (c .loop-test .taken))
+blank-at-requires c κs = let a = c .before .before .before .before .before .before .args in omega (arith, partners-near (a .k) (a .f))
 
 add-j : tie.Need-add-j Inv-loop μ-loop
 add-j c = omega arith

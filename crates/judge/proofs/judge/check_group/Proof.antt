@@ -44,7 +44,7 @@ unfolding groupAt
 returns-5 c = rw (c .before .match .keys5) (c .check-topology .ensures ∙ topology-same _ _ _ _ _ _ _ _ _)
 
 returns-6 : tie.Need-returns-6
-returns-6 c = let r = c .match .rest in group-else _ _ (r .0 .0 .0 .0 .1) (r .0 .0 .0 .1) (r .0 .0 .1) (r .0 .1) (r .1)
+returns-6 c = group-else _ _ (c .match .rest)
 
 pub check-group-spec : {M : Type 1} → statement M
 check-group-spec =

@@ -3,18 +3,19 @@
 use Prim.Native.Nat.{_-_}
 use borrow.Author.Needs.{needs}
 use Rattle.keys.specs.Delivery.{filesOf}
-use Rattle.judge.proofs.JudgeLaws.{Passed, tens-start, tens-more, tens-here, tens-end}
+use Rattle.keys.proofs.CellLaws.{Fines, fines-start, fines-more, fines-here, fines-end}
+use Rattle.judge.specs.Verdict.{groupAt, judged}
 use Rattle.judge.proofs.judge.first_break.Statement.{statement}
 use Rattle.judge.proofs.judge.first_break.Tie as tie
 
 abbrev Inv-loop : tie.InvT-loop
-Inv-loop catalogo ob-pun ob-tex ob-lin tramo vertice nodo t₀ t = Passed (filesOf catalogo ob-pun ob-tex ob-lin tramo vertice nodo) t
+Inv-loop catalogo ob-pun ob-tex ob-lin tramo vertice nodo t₀ t = Fines (groupAt (filesOf catalogo ob-pun ob-tex ob-lin tramo vertice nodo)) 6 t
 
 abbrev μ-loop : tie.MeasureT-loop
 μ-loop catalogo ob-pun ob-tex ob-lin tramo vertice nodo t₀ t = 6 - t
 
 loop-holds : tie.Need-loop-holds Inv-loop μ-loop
-loop-holds c = tens-start _
+loop-holds c = fines-start _ _
 
 check-group-requires : tie.Need-check-group-requires Inv-loop μ-loop
 check-group-requires c κs = search needs
@@ -30,16 +31,18 @@ loop-less c = search needs
 
 loop-again : tie.Need-loop-again Inv-loop μ-loop
 loop-again c =
-    tens-more (c .before .before .before .before .loop .inv) (c .before .before .before .loop-test .taken)
+    fines-more (c .before .before .before .before .loop .inv) (c .before .before .before .loop-test .taken)
     (c .before .before .check-group .ensures) (c .before .is-fine .ensures) (c .if1 .taken)
 
 returns : tie.Need-returns Inv-loop μ-loop
+unfolding judged
 returns c =
-    tens-here (c .before .before .before .before .loop .inv) (c .before .before .before .loop-test .taken)
+    fines-here (c .before .before .before .before .loop .inv) (c .before .before .before .loop-test .taken)
     (c .before .before .check-group .ensures) (c .before .is-fine .ensures) (c .if1 .left)
 
 returns-2 : tie.Need-returns-2 Inv-loop μ-loop
-returns-2 c = tens-end (c .before .loop .inv) (c .loop-test .left)
+unfolding judged
+returns-2 c = fines-end (c .before .loop .inv) (c .loop-test .left)
 
 pub first-break-spec : {M : Type 1} → statement M
 first-break-spec =

@@ -4,12 +4,16 @@ use Prim.Native.Nat.{_-_}
 use native.Mathlib.Omega.{arith}
 use denote.Ref.{now}
 use borrow.Author.Needs.{needs}
-use Rattle.record.proofs.SaysLaws.{Left, left-all, left-more, left-stop, left-none}
+use Rattle.laws.proofs.RowLaws.{Left, left-all, left-more, left-stop, left-none}
+use Rattle.field.specs.declared.class.Class.the-variants.{Blank}
+use Rattle.field.specs.Bytes.{allOf}
+use Rattle.record.specs.Cut.{textOf}
+use Rattle.record.specs.Rules.{partnersBlank}
 use Rattle.record.proofs.rules.partners_blank.Statement.{statement}
 use Rattle.record.proofs.rules.partners_blank.Tie as tie
 
 abbrev Inv-loop : tie.InvT-loop
-Inv-loop rec k f from n j₀ j = Left rec k f from n j
+Inv-loop rec k f from n j₀ j = Left (allOf Blank) (textOf rec k) (partnersBlank rec k f) from n j
 
 abbrev μ-loop : tie.MeasureT-loop
 μ-loop rec k f from n j₀ j = n - j
@@ -33,10 +37,10 @@ add-n-2 : tie.Need-add-n-2 Inv-loop μ-loop
 add-n-2 c = omega arith
 
 loop-holds : tie.Need-loop-holds Inv-loop μ-loop
+unfolding partnersBlank
 loop-holds c =
-    let b = c .before .before .before in
-    let a = b .before .before .args in
-    left-all (now (a .rec)) (a .k) (a .f) (c .before .before .minus .ensures) (b .before2 .ensures .0) (c .before .before3 .ensures .0) (c .after .ensures .0)
+    let a = c .before .before .before .before .before .args in
+    left-all (allOf Blank) (textOf (now (a .rec)) (a .k)) (omega arith) (omega arith)
 
 add-blank-field : tie.Need-add-blank-field Inv-loop μ-loop
 add-blank-field c = omega arith

@@ -3,9 +3,8 @@
 use Prim.Native.Nat.{_-_}
 use Rattle.record.specs.declared.kind.Kind.the-variants.{Nodo}
 use Rattle.record.specs.Says.{tableOf}
-use Rattle.keys.proofs.FoundLaws.{Passed, found-start, found-more, found-here, found-end}
+use Rattle.keys.proofs.FoundLaws.{Passed, found-start, found-more, found-here, found-end, any-of-found, any-of-nothing}
 use Rattle.topology.specs.Rules.{placedBefore}
-use Rattle.topology.proofs.PlaceLaws.{any-of-found, any-of-nothing}
 use borrow.Author.Needs.{needs}
 use Rattle.topology.proofs.nodes.scan_repeat.Statement.{statement}
 use Rattle.topology.proofs.nodes.scan_repeat.Tie as tie
