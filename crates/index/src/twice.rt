@@ -6,7 +6,7 @@ ghost use mathlib.Core.Bool.{true, not};
 ghost use mathlib.Core.Option.{none};
 ghost use Prim.Native.Nat.{ℕ, _≤_};
 ghost use lib.ListN.{length};
-ghost use Rattle.index.specs.Keys.{foundOf, listed, firstDuplicate, repeated};
+ghost use Rattle.index.specs.Keys.{foundOf, listed, firstDuplicate, duplicateIn, repeated};
 ghost use Rattle.index.specs.Order.{Index};
 
 // Whether no two records have one key: neighbours in the order differ.
@@ -60,9 +60,9 @@ fn shown_distinct(keys: &[u64], n: usize) -> bool
     }
 }
 
-// The same answer as `repeat_in`, which runs only where a key is repeated or there are more than 16,384.
+// The same answer as `repeat_in`, which runs only where a key is repeated or there are more than 16,384; nothing where fewer than `n` are lent.
 pub fn duplicate(keys: &[u64], n: usize) -> Found
-    ensures { λ r. ⌜ (n ≤ length (now (keys .entry)) → r ≡ foundOf (firstDuplicate (listed (now (keys .entry))) n)) ⌝ }
+    ensures { λ r. ⌜ r ≡ foundOf (duplicateIn (now (keys .entry)) n) ⌝ }
 {
     if keys.len() < n {
         return Found::Nothing;

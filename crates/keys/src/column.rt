@@ -1,21 +1,21 @@
-// Columns of names and keys, read once into a lent array of 16,384.
+// Columns of names and keys, read once into lent room. Where the room is too short for the file's records, none is read.
 use crate::names::name;
 use crate::names::record_key;
 use record::columns::rows;
 use record::kind::Kind;
-ghost use mathlib.Core.Path.{_≡_};
-ghost use Prim.Native.Nat.{ℕ, _≤_, _<_};
-ghost use lib.ListN.{length};
+ghost use Prim.Native.Nat.{ℕ};
 ghost use Rattle.record.specs.Says.{tableOf};
 ghost use Rattle.keys.specs.Delivery.{nameAt, keyOf};
-ghost use Rattle.keys.specs.Columns.{Fills};
+ghost use Rattle.keys.specs.Columns.{ReadInto};
 
 // What field f names in each record of the file.
-pub fn fill_names(s: &[u8], k: Kind, f: usize, out: &mut [u64; 16384]) -> usize
-    requires { ⌜ length (now out) ≡ 16384 ⌝ }
-    ensures { λ r. ⌜ Fills (now (out .exit)) (λ i. nameAt k (tableOf (now (s .entry)) k) i f) (tableOf (now (s .entry)) k .count) r ⌝ }
+pub fn fill_names(s: &[u8], k: Kind, f: usize, out: &mut [u64]) -> usize
+    ensures { λ r. ⌜ ReadInto (now (out .entry)) (now (out .exit)) (λ i. nameAt k (tableOf (now (s .entry)) k) i f) (tableOf (now (s .entry)) k .count) r ⌝ }
 {
     let n = rows(s, k);
+    if out.len() < n {
+        return 0;
+    }
     let mut i = 0;
     while i < n {
         out[i] = name(s, k, i, f);
@@ -25,11 +25,13 @@ pub fn fill_names(s: &[u8], k: Kind, f: usize, out: &mut [u64; 16384]) -> usize
 }
 
 // The key of each record of the file.
-pub fn fill_keys(s: &[u8], k: Kind, out: &mut [u64; 16384]) -> usize
-    requires { ⌜ length (now out) ≡ 16384 ⌝ }
-    ensures { λ r. ⌜ Fills (now (out .exit)) (λ i. keyOf k (tableOf (now (s .entry)) k) i) (tableOf (now (s .entry)) k .count) r ⌝ }
+pub fn fill_keys(s: &[u8], k: Kind, out: &mut [u64]) -> usize
+    ensures { λ r. ⌜ ReadInto (now (out .entry)) (now (out .exit)) (λ i. keyOf k (tableOf (now (s .entry)) k) i) (tableOf (now (s .entry)) k .count) r ⌝ }
 {
     let n = rows(s, k);
+    if out.len() < n {
+        return 0;
+    }
     let mut i = 0;
     while i < n {
         out[i] = record_key(s, k, i);

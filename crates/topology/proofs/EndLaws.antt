@@ -15,7 +15,7 @@ use Rattle.laws.proofs.RowLaws.{picked}
 use Rattle.laws.specs.Find.{any, firstIndex}
 use Rattle.laws.proofs.FindLaws.{any-true, index-same}
 use Rattle.index.specs.Keys.{listed}
-use Rattle.index.specs.Look.{Sought, HighestIn}
+use Rattle.index.specs.Look.{Sought, lineOf, HighestIn}
 use Rattle.index.specs.declared.Found.{Found}
 use Rattle.index.specs.declared.Found.the-variants.{At, Nothing}
 use Rattle.index.proofs.LookLaws.{sought-record, sought-yes, sought-none}
@@ -27,7 +27,7 @@ use Rattle.keys.proofs.ReferLaws.{names-column}
 use Rattle.topology.specs.declared.ends.End.{End}
 use Rattle.topology.specs.declared.ends.End.the-variants.{Start, Last}
 use Rattle.topology.specs.Ends.{nodeField, endKey, apart}
-use Rattle.topology.specs.Rules.{xAt, yAt, nodeIn, lineOf, vertex, highestIn, meets, elsewhere, startElsewhere, endElsewhere, pointElsewhere}
+use Rattle.topology.specs.Rules.{xAt, yAt, nodeIn, vertex, highestIn, meets, elsewhere, startElsewhere, endElsewhere, pointElsewhere}
 
 here-or : (n : ℕ) {k : ℕ} → k < suc n → (k ≡ n) ⊎ (k < n)
 here-or n l = eq-or-lt-of-le (le-of-suc-le-suc l)

@@ -71,7 +71,7 @@ module _ {before : List ℕ} {test : ℕ → Bool} {n : ℕ} {after : List ℕ} 
   marking-end l u e = record { long = m .long ∙ sym l; marked = λ j v. m .marked j (omega arith) }
 
 -- AN INDEX of a column in an array: the sort has room
-pub sorted-column : {l order : List ℕ} {key : ℕ → ℕ} {m n : ℕ} {r : Bool} → Fills l key m n → n ≤ length order → Sorts l order n r → Index l order n
+pub sorted-column : {l before order : List ℕ} {key : ℕ → ℕ} {m n : ℕ} {r : Bool} → Fills l key m n → n ≤ length order → Sorts l before order n r → Index l order n
 sorted-column fills u s = s .index (s .room (fills-room fills) u)
 
 -- A TEST that is equal to another

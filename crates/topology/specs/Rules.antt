@@ -1,13 +1,14 @@
 -- The rules of vertex numbering, line ends and nodes, and objects in use: one test for each of the reasons 50 to 57 and 59, true
 -- where the rule is broken at field f of record i (counted from 0) of file k (document 01, "What the reasons are").
 -- Assumes nothing.
-use Prim.Native.Nat.{ℕ, zero, suc, _+_, _-_, _*_, _/_, _%_, max}
+use Prim.Native.Nat.{ℕ, zero, suc, _+_, _-_, _%_, max}
 use mathlib.Core.Bool.{Bool, true, false, not, _&&_, _||_}
 use mathlib.Core.List.{List, [], _∷_}
 use lib.Dec.{ltb, eqb}
 use lib.ListN.{getD}
-use Rattle.laws.specs.Find.{any, names}
+use Rattle.laws.specs.Find.{firstIndex, any, names}
 use Rattle.laws.specs.Row.{pick}
+use Rattle.index.specs.Look.{lineOf}
 use Rattle.record.specs.declared.kind.Kind.{Kind}
 use Rattle.record.specs.declared.kind.Kind.the-variants.{Catalogo, ObPun, ObTex, ObLin, Tramo, Vertice, Nodo}
 use Rattle.record.specs.declared.reason.Reason.{Reason}
@@ -16,7 +17,6 @@ use Rattle.record.specs.Table.{fileOf}
 use Rattle.record.specs.Says.{Table, placeIn}
 use Rattle.keys.specs.Delivery.{Delivery, nameAt, vertexKey, keyOf}
 use Rattle.keys.specs.Rules.{orFirst}
-use Rattle.laws.specs.Find.{firstIndex}
 
 -- the rule is read of this file at this field
 abbrev pub isAt : Kind → ℕ → Kind → ℕ → Bool
@@ -53,9 +53,6 @@ nodeIn t name x y = any (λ j. eqb (nameAt Nodo t j 1) name && (eqb (xAt Nodo t 
 -- VERTICES by their keys, a line and an order together
 abbrev pub orderOf : ℕ → ℕ
 orderOf key = key % 100000
-
-abbrev pub lineOf : ℕ → ℕ
-lineOf key = key / 100000
 
 abbrev pub vertex : Delivery → ℕ → ℕ
 vertex d j = keyOf Vertice (d Vertice) j

@@ -1,15 +1,16 @@
 -- `fill_keys` meets its contract: the loop has read the keys of the records before i.
 -- Assumes nothing.
 use Prim.Native.Nat.{_-_}
+use native.Mathlib.Omega.{arith}
 use borrow.Author.Needs.{needs}
 use Rattle.record.specs.Says.{tableOf}
 use Rattle.keys.specs.Delivery.{keyOf}
-use Rattle.keys.proofs.ColumnLaws.{Filling, filling-none, filling-more, filling-all}
+use Rattle.keys.proofs.ColumnLaws.{Filling, filling-none, filling-more, filling-all, read-none}
 use Rattle.keys.proofs.column.fill_keys.Statement.{statement}
 use Rattle.keys.proofs.column.fill_keys.Tie as tie
 
 abbrev Inv-loop : tie.InvT-loop
-Inv-loop s k out₀ n i₀ out i = Filling (λ j. keyOf k (tableOf s k) j) n out i
+Inv-loop s k out₀ n i₀ out i = Filling (λ j. keyOf k (tableOf s k) j) n out₀ out i
 
 abbrev μ-loop : tie.MeasureT-loop
 μ-loop s k out₀ n i₀ out i = n - i
@@ -17,8 +18,13 @@ abbrev μ-loop : tie.MeasureT-loop
 rows-requires : tie.Need-rows-requires Inv-loop μ-loop
 rows-requires c κs = search needs
 
+returns : tie.Need-returns Inv-loop μ-loop
+returns c =
+    let d = c .before in
+    read-none _ _ (omega (arith, d .rows .ensures .0, d .rows .ensures .1)) (c .if1 .taken) (d .rows .ensures .0)
+
 loop-holds : tie.Need-loop-holds Inv-loop μ-loop
-loop-holds c = filling-none _ _ (c .before .before .pre)
+loop-holds c = filling-none _ _
 
 record-key-requires : tie.Need-record-key-requires Inv-loop μ-loop
 record-key-requires c κs = search needs
@@ -26,8 +32,8 @@ record-key-requires c κs = search needs
 mul-out : tie.Need-mul-out Inv-loop μ-loop
 mul-out c = search needs
 
-element-write-out : tie.Need-element-write-out Inv-loop μ-loop
-element-write-out c = search needs
+slice-write-out : tie.Need-slice-write-out Inv-loop μ-loop
+slice-write-out c = search needs
 
 add-i : tie.Need-add-i Inv-loop μ-loop
 add-i c = search needs
@@ -38,12 +44,16 @@ loop-less c = search needs
 loop-again : tie.Need-loop-again Inv-loop μ-loop
 loop-again c =
     let d = c .before .before in
-    filling-more (d .loop .inv) (d .before .rows .ensures .1) (c .before .loop-test .taken) (c .record-key .ensures)
+    filling-more (d .loop .inv) (d .before .if1 .left) (c .before .loop-test .taken) (c .record-key .ensures)
 
-returns : tie.Need-returns Inv-loop μ-loop
-returns c =
+same-length : tie.Need-same-length Inv-loop μ-loop
+same-length c = search needs
+
+returns-2 : tie.Need-returns-2 Inv-loop μ-loop
+returns-2 c =
     let d = c .before in
-    filling-all (d .loop .inv) (d .before .rows .ensures .1) (c .loop-test .left) (d .before .rows .ensures .0)
+    let r = d .before .before .rows .ensures in
+    filling-all (d .loop .inv) (d .before .if1 .left) (omega (arith, r .0, r .1)) (c .loop-test .left) (r .0)
 
 pub fill-keys-spec : {M : Type 1} → statement M
 fill-keys-spec =
@@ -52,11 +62,13 @@ fill-keys-spec =
     Inv-loop
     μ-loop
     rows-requires
+    returns
     loop-holds
     record-key-requires
     mul-out
-    element-write-out
+    slice-write-out
     add-i
     loop-less
     loop-again
-    returns)
+    same-length
+    returns-2)

@@ -4,12 +4,19 @@ use mathlib.Core.Path.{ap, _∙_}
 use Rattle.index.specs.Keys.{foundOf}
 use Rattle.index.proofs.OrderLaws.{sorts-room}
 use Rattle.keys.proofs.ReferLaws.{fills-room, index-filled, dangles-filled}
+use Rattle.keys.proofs.ColumnLaws.{read-fills}
 use borrow.Author.Needs.{needs}
 use Rattle.keys.proofs.refer.first_dangling.Statement.{statement}
 use Rattle.keys.proofs.refer.first_dangling.Tie as tie
 
+slice-aggregate-fill-names : tie.Need-slice-aggregate-fill-names
+slice-aggregate-fill-names c = search needs
+
 fill-names-requires : tie.Need-fill-names-requires
 fill-names-requires c κs = search needs
+
+slice-aggregate-fill-names-2 : tie.Need-slice-aggregate-fill-names-2
+slice-aggregate-fill-names-2 c = search needs
 
 fill-names-requires-2 : tie.Need-fill-names-requires-2
 fill-names-requires-2 c κs = search needs
@@ -33,19 +40,23 @@ slice-aggregate-first-unknown-3 : tie.Need-slice-aggregate-first-unknown-3
 slice-aggregate-first-unknown-3 c = search needs
 
 first-unknown-requires : tie.Need-first-unknown-requires
-first-unknown-requires c κs = (fills-room (c .before .before .before .before .before .before .before .before .before .before .fill-names .ensures), c .before .before .before .before .before .sort .ensures .index (c .before .before .before .if1 .taken))
+first-unknown-requires c κs = (fills-room (read-fills (search needs) (c .before .before .before .before .before .before .before .before .before .before .before .before .fill-names .ensures)), c .before .before .before .before .before .sort .ensures .index (c .before .before .before .if1 .taken))
 
 returns : tie.Need-returns
-returns c = c .first-unknown .ensures ∙ ap foundOf (index-filled (c .before .before .before .before .before .before .before .before .before .before .before .fill-names .ensures) _ _ (dangles-filled (c .before .before .before .before .before .before .before .before .before .fill-names2 .ensures)))
+returns c = c .first-unknown .ensures ∙ ap foundOf (index-filled (read-fills (search needs) (c .before .before .before .before .before .before .before .before .before .before .before .before .before .fill-names .ensures)) _ _ (dangles-filled (read-fills (search needs) (c .before .before .before .before .before .before .before .before .before .before .fill-names2 .ensures))))
 
 returns-2 : tie.Need-returns-2
-returns-2 c = absurd (sorts-room (c .before .before .sort .ensures) (fills-room (c .before .before .before .before .before .fill-names2 .ensures)) (search needs) (c .if1 .left))
+returns-2 c =
+    let fills = read-fills (search needs) (c .before .before .before .before .before .before .fill-names2 .ensures) in
+    absurd (sorts-room (c .before .before .sort .ensures) (fills-room fills) (search (needs, fills .count, fills .small)) (c .if1 .left))
 
 pub first-dangling-spec : {M : Type 1} → statement M
 first-dangling-spec =
     tie.close
     (tie.spec
+    slice-aggregate-fill-names
     fill-names-requires
+    slice-aggregate-fill-names-2
     fill-names-requires-2
     slice-aggregate-sort
     slice-aggregate-sort-2

@@ -2,9 +2,13 @@
 -- Assumes nothing.
 use Rattle.index.proofs.OrderLaws.{sorts-room}
 use Rattle.keys.proofs.ReferLaws.{fills-room}
+use Rattle.keys.proofs.ColumnLaws.{read-fills}
 use borrow.Author.Needs.{needs}
 use Rattle.topology.proofs.ends.first_astray.Statement.{statement}
 use Rattle.topology.proofs.ends.first_astray.Tie as tie
+
+slice-aggregate-fill-names : tie.Need-slice-aggregate-fill-names
+slice-aggregate-fill-names c = search needs
 
 fill-names-requires : tie.Need-fill-names-requires
 fill-names-requires c κs = search needs
@@ -25,18 +29,21 @@ slice-aggregate-first-astray-in-2 : tie.Need-slice-aggregate-first-astray-in-2
 slice-aggregate-first-astray-in-2 c = search needs
 
 first-astray-in-requires : tie.Need-first-astray-in-requires
-first-astray-in-requires c κs = (c .before .before .before .before .sort .ensures .index (c .before .before .if1 .taken), c .before .before .before .before .before .before .before .fill-names .ensures)
+first-astray-in-requires c κs = (c .before .before .before .before .sort .ensures .index (c .before .before .if1 .taken), read-fills (search needs) (c .before .before .before .before .before .before .before .before .fill-names .ensures))
 
 returns : tie.Need-returns
 returns c = search needs
 
 returns-2 : tie.Need-returns-2
-returns-2 c = absurd (sorts-room (c .before .before .sort .ensures) (fills-room (c .before .before .before .before .before .fill-names .ensures)) (search needs) (c .if1 .left))
+returns-2 c =
+    let fills = read-fills (search needs) (c .before .before .before .before .before .before .fill-names .ensures) in
+    absurd (sorts-room (c .before .before .sort .ensures) (fills-room fills) (search (needs, fills .count, fills .small)) (c .if1 .left))
 
 pub first-astray-spec : {M : Type 1} → statement M
 first-astray-spec =
     tie.close
     (tie.spec
+    slice-aggregate-fill-names
     fill-names-requires
     slice-aggregate-sort
     slice-aggregate-sort-2

@@ -5,9 +5,13 @@ use Rattle.index.specs.Keys.{foundOf}
 use Rattle.index.proofs.OrderLaws.{sorts-room}
 use Rattle.keys.proofs.ReferLaws.{fills-room}
 use Rattle.topology.proofs.EndLaws.{endless-column}
+use Rattle.keys.proofs.ColumnLaws.{read-fills}
 use borrow.Author.Needs.{needs}
 use Rattle.topology.proofs.ends.first_endless.Statement.{statement}
 use Rattle.topology.proofs.ends.first_endless.Tie as tie
+
+slice-aggregate-fill-keys : tie.Need-slice-aggregate-fill-keys
+slice-aggregate-fill-keys c = search needs
 
 fill-keys-requires : tie.Need-fill-keys-requires
 fill-keys-requires c κs = search needs
@@ -31,15 +35,18 @@ first-endless-in-requires : tie.Need-first-endless-in-requires
 first-endless-in-requires c κs = c .before .before .before .before .sort .ensures .index (c .before .before .if1 .taken)
 
 returns : tie.Need-returns
-returns c = c .first-endless-in .ensures ∙ ap foundOf (endless-column (c .before .before .before .before .before .before .before .before .fill-keys .ensures) _ _)
+returns c = c .first-endless-in .ensures ∙ ap foundOf (endless-column (read-fills (search needs) (c .before .before .before .before .before .before .before .before .before .fill-keys .ensures)) _ _)
 
 returns-2 : tie.Need-returns-2
-returns-2 c = absurd (sorts-room (c .before .before .sort .ensures) (fills-room (c .before .before .before .before .before .fill-keys .ensures)) (search needs) (c .if1 .left))
+returns-2 c =
+    let fills = read-fills (search needs) (c .before .before .before .before .before .before .fill-keys .ensures) in
+    absurd (sorts-room (c .before .before .sort .ensures) (fills-room fills) (search (needs, fills .count, fills .small)) (c .if1 .left))
 
 pub first-endless-spec : {M : Type 1} → statement M
 first-endless-spec =
     tie.close
     (tie.spec
+    slice-aggregate-fill-keys
     fill-keys-requires
     slice-aggregate-sort
     slice-aggregate-sort-2

@@ -3,14 +3,15 @@
 use Prim.Native.Nat.{_-_}
 use Rattle.record.specs.declared.kind.Kind.the-variants.{Nodo}
 use Rattle.record.specs.Says.{tableOf}
-use Rattle.keys.proofs.ColumnLaws.{Filling, filling-none, filling-more, filling-all}
+use Rattle.keys.proofs.ColumnLaws.{Filling, filling-none, filling-more, filling-all, read-fills}
 use Rattle.topology.proofs.PlaceLaws.{spotAt}
+use native.Mathlib.Omega.{arith}
 use borrow.Author.Needs.{needs}
 use Rattle.topology.proofs.nodes.fill_spots.Statement.{statement}
 use Rattle.topology.proofs.nodes.fill_spots.Tie as tie
 
 abbrev Inv-loop : tie.InvT-loop
-Inv-loop nodo out₀ k n i₀ out i = Filling (spotAt (tableOf nodo Nodo)) n out i
+Inv-loop nodo out₀ k n i₀ out i = Filling (spotAt (tableOf nodo Nodo)) n out₀ out i
 
 abbrev μ-loop : tie.MeasureT-loop
 μ-loop nodo out₀ k n i₀ out i = n - i
@@ -19,7 +20,7 @@ rows-requires : tie.Need-rows-requires Inv-loop μ-loop
 rows-requires c κs = search needs
 
 loop-holds : tie.Need-loop-holds Inv-loop μ-loop
-loop-holds c = filling-none _ _ (c .before .before .pre)
+loop-holds c = filling-none _ _
 
 x-at-requires : tie.Need-x-at-requires Inv-loop μ-loop
 x-at-requires c κs = search needs
@@ -48,13 +49,15 @@ loop-less c = search needs
 loop-again : tie.Need-loop-again Inv-loop μ-loop
 loop-again c =
     let d = c .before .before .before .before .before in
-    filling-more (d .loop .inv) (d .before .rows .ensures .1) (c .before .before .before .before .loop-test .taken)
+    filling-more (d .loop .inv) (omega (arith, d .before .before .before .pre, d .before .rows .ensures .1)) (c .before .before .before .before .loop-test .taken)
     (rw (← c .before .z-at .ensures .0, ← c .before .before .y-at .ensures .0, ← c .before .before .before .x-at .ensures .0) (c .spot .ensures))
 
 returns : tie.Need-returns Inv-loop μ-loop
 returns c =
     let d = c .before in
-    filling-all (d .loop .inv) (d .before .rows .ensures .1) (c .loop-test .left) (d .before .rows .ensures .0)
+    let r = d .before .rows .ensures in
+    read-fills (d .before .before .before .pre)
+    (filling-all (d .loop .inv) (omega (arith, d .before .before .before .pre, r .1)) (omega (arith, r .0, r .1)) (c .loop-test .left) (r .0))
 
 pub fill-spots-spec : {M : Type 1} → statement M
 fill-spots-spec =

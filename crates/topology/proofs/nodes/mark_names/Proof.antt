@@ -2,9 +2,13 @@
 -- Assumes nothing.
 use Rattle.keys.proofs.ReferLaws.{names-column}
 use Rattle.topology.proofs.MarkLaws.{sorted-column, marks-same}
+use Rattle.keys.proofs.ColumnLaws.{read-fills}
 use borrow.Author.Needs.{needs}
 use Rattle.topology.proofs.nodes.mark_names.Statement.{statement}
 use Rattle.topology.proofs.nodes.mark_names.Tie as tie
+
+slice-aggregate-fill-names : tie.Need-slice-aggregate-fill-names
+slice-aggregate-fill-names c = search needs
 
 fill-names-requires : tie.Need-fill-names-requires
 fill-names-requires c κs = search needs
@@ -27,17 +31,19 @@ slice-aggregate-mark-named-2 c = search needs
 mark-named-requires : tie.Need-mark-named-requires
 mark-named-requires c κs =
     let d = c .before .before .before .before in
-    (sorted-column (d .before .before .before .fill-names .ensures) (search needs) (d .sort .ensures), d .before .before .before .before .before .before .before .pre)
+    let fills = read-fills (search needs) (d .before .before .before .before .fill-names .ensures) in
+    (sorted-column fills (search (needs, fills .count, fills .small)) (d .sort .ensures), d .before .before .before .before .before .before .before .before .pre)
 
 returns : tie.Need-returns
 returns c =
     let d = c .before .before .before .before .before .before .before .before in
-    marks-same (λ i. names-column (d .fill-names .ensures) _) (c .mark-named .ensures)
+    marks-same (λ i. names-column (read-fills (search needs) (d .before .fill-names .ensures)) _) (c .mark-named .ensures)
 
 pub mark-names-spec : {M : Type 1} → statement M
 mark-names-spec =
     tie.close
     (tie.spec
+    slice-aggregate-fill-names
     fill-names-requires
     slice-aggregate-sort
     slice-aggregate-sort-2

@@ -3,9 +3,13 @@
 use Rattle.index.proofs.OrderLaws.{sorts-room}
 use Rattle.keys.proofs.ReferLaws.{fills-room}
 use Rattle.topology.proofs.OrderRules.{found-column, alone-column}
+use Rattle.keys.proofs.ColumnLaws.{read-fills}
 use borrow.Author.Needs.{needs}
 use Rattle.topology.proofs.orders.first_alone.Statement.{statement}
 use Rattle.topology.proofs.orders.first_alone.Tie as tie
+
+slice-aggregate-fill-keys : tie.Need-slice-aggregate-fill-keys
+slice-aggregate-fill-keys c = search needs
 
 fill-keys-requires : tie.Need-fill-keys-requires
 fill-keys-requires c κs = search needs
@@ -29,15 +33,18 @@ first-alone-in-requires : tie.Need-first-alone-in-requires
 first-alone-in-requires c κs = c .before .before .before .before .sort .ensures .index (c .before .before .if1 .taken)
 
 returns : tie.Need-returns
-returns c = found-column (c .before .before .before .before .before .before .before .before .fill-keys .ensures) _ _ (c .first-alone-in .ensures) (alone-column (c .before .before .before .before .before .before .before .before .fill-keys .ensures))
+returns c = found-column (read-fills (search needs) (c .before .before .before .before .before .before .before .before .before .fill-keys .ensures)) _ _ (c .first-alone-in .ensures) (alone-column (read-fills (search needs) (c .before .before .before .before .before .before .before .before .before .fill-keys .ensures)))
 
 returns-2 : tie.Need-returns-2
-returns-2 c = absurd (sorts-room (c .before .before .sort .ensures) (fills-room (c .before .before .before .before .before .fill-keys .ensures)) (search needs) (c .if1 .left))
+returns-2 c =
+    let fills = read-fills (search needs) (c .before .before .before .before .before .before .fill-keys .ensures) in
+    absurd (sorts-room (c .before .before .sort .ensures) (fills-room fills) (search (needs, fills .count, fills .small)) (c .if1 .left))
 
 pub first-alone-spec : {M : Type 1} → statement M
 first-alone-spec =
     tie.close
     (tie.spec
+    slice-aggregate-fill-keys
     fill-keys-requires
     slice-aggregate-sort
     slice-aggregate-sort-2
