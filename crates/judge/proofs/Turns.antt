@@ -12,7 +12,8 @@ use borrow.Author.Tests.{eqb-true, eqb-false}
 use Rattle.laws.specs.Find.{any}
 use Rattle.laws.proofs.FindLaws.{any-at, any-no, any-false, any-true}
 use Rattle.laws.proofs.RowLaws.{same-test, picked}
-use Rattle.topology.specs.Rules.{lineOf, highestIn}
+use Rattle.index.specs.Look.{lineOf}
+use Rattle.topology.specs.Rules.{highestIn}
 
 -- a rearrangement of the indices below n
 pub record Turn (n : ℕ) : Type 0 where
