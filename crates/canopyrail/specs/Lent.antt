@@ -1,0 +1,92 @@
+-- The values of one record in lent memory, and the two calls on them: of each of fourteen fields a number, a coordinate, a length and
+-- sixty bytes of text. A field whose length is 0 is missing; of a number or a coordinate any other length says that it is given.
+-- Assumes nothing.
+use Prim.Native.Nat.{ℕ, zero, suc, _+_, _*_}
+use mathlib.Core.Bool.{Bool, true, false, not, _&&_, _||_}
+use mathlib.Core.List.{List, [], _++_}
+use mathlib.Core.Path.{_≡_}
+use lib.Dec.{eqb, ltb}
+use lib.IntN.{ℤ, pos}
+use lib.ListN.{length, getD, take, drop}
+use Rattle.laws.specs.Row.{pick, row}
+use Rattle.field.specs.Texts.{padded, firstBytes}
+use Rattle.record.specs.declared.reason.Reason.the-variants.{ShortRoom61}
+use Rattle.codec.specs.declared.values.Value.{Value}
+use Rattle.codec.specs.declared.values.Values.{Values}
+use Rattle.codec.specs.declared.values.Answer.{Answer}
+use Rattle.codec.specs.declared.values.Answer.the-variants.{Done, Refused}
+use Rattle.codec.specs.declared.values.Reading.{Reading}
+use Rattle.codec.specs.Values.{valueAt}
+use Rattle.codec.specs.Calls.{readOf, Writes}
+use Rattle.canopyrail.specs.Answers.{answerWord, refusalWord}
+
+-- VALUES PUT INTO LENT MEMORY
+-- a text's bytes; 1 of a number or a coordinate that is given
+unfoldable pub lentLength : Value → ℕ
+lentLength v = pick (v .given && eqb (v .len) 0) 1 (v .len)
+
+-- n texts, one after the other
+unfoldable pub strung : (ℕ → List ℕ) → ℕ → List ℕ
+strung g zero = []
+strung g (suc n) = strung g n ++ g n
+
+abbrev pub numbersOf : Values → List ℕ
+numbersOf v = row (λ i. valueAt v (i + 1) .number) 14
+
+abbrev pub coordinatesOf : Values → List ℤ
+coordinatesOf v = row (λ i. valueAt v (i + 1) .coordinate) 14
+
+abbrev pub lengthsOf : Values → List ℕ
+lengthsOf v = row (λ i. lentLength (valueAt v (i + 1))) 14
+
+abbrev pub textsOf : Values → List ℕ
+textsOf v = strung (λ i. padded 60 (firstBytes 60 (valueAt v (i + 1) .text))) 14
+
+-- lent memory after the values were put at its start; what lies past them is as it was
+pub record Holds (v : Values) (numbers : List ℕ) (coordinates : List ℤ) (lengths texts : List ℕ) (numbers' : List ℕ) (coordinates' : List ℤ) (lengths' texts' : List ℕ) : Type 0 where
+  pub theNumbers : numbers' ≡ numbersOf v ++ drop 14 numbers
+  pub theCoordinates : coordinates' ≡ coordinatesOf v ++ drop 14 coordinates
+  pub theLengths : lengths' ≡ lengthsOf v ++ drop 14 lengths
+  pub theTexts : texts' ≡ textsOf v ++ drop 840 texts
+
+-- READING
+-- room for fourteen of each, and for their texts
+unfoldable pub roomy : ℕ → ℕ → ℕ → ℕ → Bool
+roomy numbers coordinates lengths texts =
+    not (ltb numbers 14) && not (ltb coordinates 14) && not (ltb lengths 14) && not (ltb texts 840)
+
+-- a lawful record for whose values there is no room is refused with 61
+abbrev pub readAnswer : Answer → Bool → ℕ
+readAnswer Done true = 0
+readAnswer Done false = refusalWord ShortRoom61 0
+readAnswer (Refused reason field) room = refusalWord reason field
+
+-- file number, the file's bytes, record number; the lent memory before and after
+pub record Reads (file : ℕ) (bytes : List ℕ) (n : ℕ) (numbers : List ℕ) (coordinates : List ℤ) (lengths texts : List ℕ) (r : ℕ) (numbers' : List ℕ) (coordinates' : List ℤ) (lengths' texts' : List ℕ) : Type 0 where
+  pub says : r ≡ readAnswer (readOf file bytes n .answer) (roomy (length numbers) (length coordinates) (length lengths) (length texts))
+  pub holds : r ≡ 0 → Holds (readOf file bytes n .values) numbers coordinates lengths texts numbers' coordinates' lengths' texts'
+  pub numbersStay : (r ≡ 0 → ⊥) → numbers' ≡ numbers
+  pub coordinatesStay : (r ≡ 0 → ⊥) → coordinates' ≡ coordinates
+  pub lengthsStay : (r ≡ 0 → ⊥) → lengths' ≡ lengths
+  pub textsStay : (r ≡ 0 → ⊥) → texts' ≡ texts
+
+-- WRITING
+-- the value of field i + 1; past the end of what is lent nothing is said
+unfoldable pub lentValue : List ℕ → List ℤ → List ℕ → List ℕ → ℕ → Value
+lentValue numbers coordinates lengths texts i =
+    record {
+      given = not (eqb (getD lengths i 0) 0);
+      number = getD numbers i 0;
+      coordinate = getD coordinates i (pos 0);
+      len = getD lengths i 0;
+      text = padded 60 (take 60 (drop (60 * i) texts));
+    }
+
+unfoldable pub lentValues : List ℕ → List ℤ → List ℕ → List ℕ → Values
+lentValues numbers coordinates lengths texts = record { at = row (lentValue numbers coordinates lengths texts) 14 }
+
+-- file number, the lent values, the room before and after
+pub record WritesLent (file : ℕ) (v : Values) (room : List ℕ) (r : ℕ) (after : List ℕ) : Type 0 where
+  pub answer : Answer
+  pub says : r ≡ answerWord answer
+  pub writes : Writes file v room answer after

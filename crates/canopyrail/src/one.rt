@@ -1,0 +1,178 @@
+// One record read, or written, its values in lent memory: of each field a number, a coordinate, a length and sixty bytes of text.
+use crate::answer::refusal;
+use codec::read::read;
+use codec::values::Answer;
+use codec::values::Value;
+use codec::values::Values;
+use codec::values::missing_value;
+use codec::write::write;
+use field::words::put_text;
+use record::cut::part;
+use record::reason::Reason;
+ghost use mathlib.Core.Path.{_≡_};
+ghost use mathlib.Core.Bool.{_&&_};
+ghost use mathlib.Core.List.{List, _++_};
+ghost use Prim.Native.Nat.{ℕ, _+_, _*_, _<_, _≤_};
+ghost use lib.IntN.{ℤ, pos};
+ghost use lib.ListN.{length, getD, take, drop};
+ghost use lib.Dec.{ltb};
+ghost use Rattle.codec.specs.Calls.{readOf};
+ghost use Rattle.canopyrail.specs.Lent.{lentLength, roomy, Holds, Reads, lentValue, lentValues, WritesLent};
+ghost use Rattle.canopyrail.specs.Answers.{answerWord};
+
+// A text's bytes; 1 of a number or a coordinate that is given.
+fn lent_length(v: Value) -> usize
+    ensures { λ r. ⌜ r ≡ lentLength v ⌝ }
+{
+    let len = v.len;
+    if v.given {
+        if len == 0 { 1 } else { len }
+    } else {
+        len
+    }
+}
+
+// Puts fourteen values into lent memory.
+fn put_values(
+    values: Values,
+    numbers: &mut [u64],
+    coordinates: &mut [i64],
+    lengths: &mut [usize],
+    texts: &mut [u8],
+)
+    requires { ⌜ (14 ≤ length (now numbers)) × (14 ≤ length (now coordinates)) × (14 ≤ length (now lengths)) × (840 ≤ length (now texts)) ⌝ }
+    ensures { λ _. ⌜ Holds values (now (numbers .entry)) (now (coordinates .entry)) (now (lengths .entry)) (now (texts .entry)) (now (numbers .exit)) (now (coordinates .exit)) (now (lengths .exit)) (now (texts .exit)) ⌝ }
+{
+    let mut i = 0;
+    while i < 14 {
+        let v = values.get(i + 1);
+        let number = v.number;
+        let coordinate = v.coordinate;
+        let text = v.text;
+        numbers[i] = number;
+        coordinates[i] = coordinate;
+        lengths[i] = lent_length(v);
+        let from = 60 * i;
+        let next = from + 60;
+        put_text(&mut texts[from..next], &text, 60);
+        i += 1;
+    }
+}
+
+fn has_room(numbers: usize, coordinates: usize, lengths: usize, texts: usize) -> bool
+    ensures { λ r. ⌜ r ≡ roomy numbers coordinates lengths texts ⌝ }
+{
+    !(numbers < 14) & !(coordinates < 14) & !(lengths < 14) & !(texts < 840)
+}
+
+// Reads record n, counted from 1, of the bytes of the file with the number; a refusal leaves the lent memory as it was.
+#[no_mangle]
+pub extern "C" fn canopyrail_read(
+    file: usize,
+    bytes: &[u8],
+    n: usize,
+    numbers: &mut [u64],
+    coordinates: &mut [i64],
+    lengths: &mut [usize],
+    texts: &mut [u8],
+) -> u64
+    ensures { λ r. ⌜ Reads file (now (bytes .entry)) n (now (numbers .entry)) (now (coordinates .entry)) (now (lengths .entry)) (now (texts .entry)) r (now (numbers .exit)) (now (coordinates .exit)) (now (lengths .exit)) (now (texts .exit)) ⌝ }
+{
+    let reading = read(file, bytes, n);
+    let answer = reading.answer;
+    let values = reading.values;
+    match answer {
+        Answer::Refused(reason, field) => refusal(reason, field),
+        Answer::Done => {
+            if has_room(numbers.len(), coordinates.len(), lengths.len(), texts.len()) {
+                put_values(values, numbers, coordinates, lengths, texts);
+                0
+            } else {
+                refusal(Reason::ShortRoom61, 0)
+            }
+        }
+    }
+}
+
+fn number_at(numbers: &[u64], i: usize) -> u64
+    ensures { λ r. ⌜ r ≡ getD (now (numbers .entry)) i 0 ⌝ }
+{
+    if i < numbers.len() { numbers[i] } else { 0 }
+}
+
+fn coordinate_at(coordinates: &[i64], i: usize) -> i64
+    ensures { λ r. ⌜ r ≡ getD (now (coordinates .entry)) i (pos 0) ⌝ }
+{
+    if i < coordinates.len() {
+        coordinates[i]
+    } else {
+        0
+    }
+}
+
+fn length_at(lengths: &[usize], i: usize) -> usize
+    ensures { λ r. ⌜ r ≡ getD (now (lengths .entry)) i 0 ⌝ }
+{
+    if i < lengths.len() { lengths[i] } else { 0 }
+}
+
+// The value of field i + 1.
+fn lent_value(
+    numbers: &[u64],
+    coordinates: &[i64],
+    lengths: &[usize],
+    texts: &[u8],
+    i: usize,
+) -> Value
+    requires { ⌜ i < 14 ⌝ }
+    ensures { λ r. ⌜ r ≡ lentValue (now (numbers .entry)) (now (coordinates .entry)) (now (lengths .entry)) (now (texts .entry)) i ⌝ }
+{
+    let len = length_at(lengths, i);
+    let t = part(texts, 60 * i, 60);
+    let mut text = [32u8; 60];
+    put_text(&mut text, t, t.len());
+    Value {
+        given: len != 0,
+        number: number_at(numbers, i),
+        coordinate: coordinate_at(coordinates, i),
+        len,
+        text,
+    }
+}
+
+fn lent_values(numbers: &[u64], coordinates: &[i64], lengths: &[usize], texts: &[u8]) -> Values
+    ensures { λ r. ⌜ r ≡ lentValues (now (numbers .entry)) (now (coordinates .entry)) (now (lengths .entry)) (now (texts .entry)) ⌝ }
+{
+    let mut at = [missing_value(); 14];
+    let mut i = 0;
+    while i < 14 {
+        at[i] = lent_value(numbers, coordinates, lengths, texts, i);
+        i += 1;
+    }
+    Values { at }
+}
+
+fn answer_word(a: Answer) -> u64
+    ensures { λ r. ⌜ r ≡ answerWord a ⌝ }
+{
+    match a {
+        Answer::Done => 0,
+        Answer::Refused(reason, field) => refusal(reason, field),
+    }
+}
+
+// Writes one record of the file with the number at the start of the room, or refuses and leaves the room as it was.
+#[no_mangle]
+pub extern "C" fn canopyrail_write(
+    file: usize,
+    numbers: &[u64],
+    coordinates: &[i64],
+    lengths: &[usize],
+    texts: &[u8],
+    room: &mut [u8],
+) -> u64
+    ensures { λ r. ⌜ WritesLent file (lentValues (now (numbers .entry)) (now (coordinates .entry)) (now (lengths .entry)) (now (texts .entry))) (now (room .entry)) r (now (room .exit)) ⌝ }
+{
+    let v = lent_values(numbers, coordinates, lengths, texts);
+    answer_word(write(file, v, room))
+}

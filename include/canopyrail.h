@@ -1,0 +1,168 @@
+/*
+ * canopyrail.h: a checker and codec for MIGRA v1 map deliveries (chain-node profile, seven files).
+ *
+ * Link libcanopyrail.a (x86-64 Linux, nothing else is needed beside it). Every call below is proved to meet its contract on every
+ * input, damaged or empty, to stay within the memory that it is lent, and to end. docs/PROMISES.md says what is proved.
+ *
+ * The files are numbered
+ *
+ *     1 CATALOGO   2 OB_PUN   3 OB_TEX   4 OB_LIN   5 TRAMO   6 VERTICE   7 NODO
+ *
+ * and records and fields are counted from 1. Record 0 is the file as a whole, field 0 the record as a whole.
+ *
+ * MEMORY. All memory is the caller's. It is lent for the time of the call: nothing is kept between calls, nothing is allocated, there
+ * is no state. So every call is reentrant, and several threads may call at once. Memory passed as `const` is only read. Memory to be
+ * written must not overlap any other memory of the same call. A length counts elements, not bytes.
+ *
+ * NULL AND ALIGNMENT. A pointer with length 0 is never followed and may be null: an absent or empty file is (NULL, 0). Any other
+ * pointer must be valid for its length and aligned as C aligns its type (bytes need none). No length may pass PTRDIFF_MAX bytes.
+ *
+ * STACK. canopyrail_judge takes up to CANOPYRAIL_STACK bytes of stack, whatever the files' sizes (docs/BENCHMARKS.md has the
+ * measured figure); the other calls take less than 64 KiB. A thread that judges must have been made with as much.
+ *
+ * ANSWERS. A call that can refuse answers with one number. 0 says that nothing is wrong. Any other is a reason with its place, and the
+ * calls canopyrail_reason, _file, _record, _field and _other take it apart. As a decimal number it has the digits of
+ * reason (2), file (2), record (5), field (2), other (5): 53 05 00001 07 00000.
+ */
+#ifndef CANOPYRAIL_H
+#define CANOPYRAIL_H
+
+#include <stddef.h>
+#include <stdint.h>
+
+#ifdef __cplusplus
+extern "C" {
+#endif
+
+/* At most so many records a file; a longer file is refused with reason 10. */
+#define CANOPYRAIL_RECORDS 16384
+/* The most fields a record has, the bytes of the longest text, and the bytes of the longest record. */
+#define CANOPYRAIL_FIELDS 14
+#define CANOPYRAIL_TEXT 60
+#define CANOPYRAIL_LONGEST 149
+/* Stack for canopyrail_judge. */
+#define CANOPYRAIL_STACK (4u * 1024u * 1024u)
+
+/*
+ * THE REASONS. Of all the breaks of a delivery the first is told: the least by tens of the reason, then file, record, field, reason.
+ * A rule of a higher ten is read only where no lower ten is broken.
+ */
+enum {
+    CANOPYRAIL_FINE = 0,
+    CANOPYRAIL_LONG_FILE = 10,        /* file longer than 16,384 records' bytes: record 0, field 0 */
+    CANOPYRAIL_RAGGED_FILE = 11,      /* length no multiple of the record length: whole records plus 1, field 0 */
+    CANOPYRAIL_BAD_END = 20,          /* the record doesn't end in 0D 0A: field 0 */
+    CANOPYRAIL_NO_BAR = 21,           /* no bar (7C) after the field */
+    CANOPYRAIL_NOT_NUMBER = 22,       /* an N field is neither all digits nor all blanks */
+    CANOPYRAIL_NOT_TEXT = 23,         /* an A field has a byte outside 20-7E and A0-FF, or begins with a blank and isn't all blank */
+    CANOPYRAIL_MISSING = 24,          /* missing where it may not be, or blank while its partner isn't */
+    CANOPYRAIL_OUTSIDE = 25,          /* outside its domain; - before zero is told at the sign */
+    CANOPYRAIL_SAME_KEY = 30,         /* the key equals that of an earlier record of the file; other: that record */
+    CANOPYRAIL_NO_RECORD = 40,        /* a reference names no record */
+    CANOPYRAIL_OTHER_TYPE = 41,       /* the code is catalogued under another type; other: the letter it is catalogued under */
+    CANOPYRAIL_ORDER_GAP = 50,        /* the vertex order is 0, or is over 1 and its line has no order one less */
+    CANOPYRAIL_ORDER_ALONE = 51,      /* the vertex order is 1 and its line has no order 2 */
+    CANOPYRAIL_START_ELSEWHERE = 52,  /* the line's vertex of order 1 lies elsewhere in X or Y than the start node */
+    CANOPYRAIL_END_ELSEWHERE = 53,    /* the line's vertex of highest order lies elsewhere in X or Y than the end node */
+    CANOPYRAIL_SAME_PLACE = 54,       /* same X, Y, Z as an earlier node; other: that record */
+    CANOPYRAIL_POINT_ELSEWHERE = 55,  /* a point object differs in X or Y from the node it names */
+    CANOPYRAIL_IDLE_NODE = 56,        /* a node that starts or ends no tramo, is at no vertex, and is named by no point object */
+    CANOPYRAIL_IDLE_OBJECT = 57,      /* a linear object named by no tramo */
+    CANOPYRAIL_NO_LAST_VERTEX = 59,   /* a tramo whose line has no vertex of highest order (never told first) */
+    /* of the calls on one record */
+    CANOPYRAIL_NO_FILE = 60,          /* the file number is outside 1 to 7: field 0 */
+    CANOPYRAIL_SHORT_ROOM = 61,       /* the lent room is too short: field 0 */
+    CANOPYRAIL_TOO_LARGE = 62,        /* writing: the value is too large for its digits */
+    CANOPYRAIL_BAD_TEXT = 63,         /* writing: the text is too long, has a byte outside the A set, or begins or ends in a blank */
+    CANOPYRAIL_NOT_GIVEN = 64,        /* writing: missing where it may not be, by the partner rule too */
+    CANOPYRAIL_UNFIT = 65,            /* writing: outside its domain */
+    CANOPYRAIL_NO_SUCH_RECORD = 66    /* reading: the record number is 0 or above the whole records in hand: field 0 */
+};
+
+/*
+ * Judges a delivery: the bytes of its seven files, in any state. 0 if no rule is broken; else the first break.
+ * The counts of an accepted delivery are canopyrail_count of each file.
+ */
+uint64_t canopyrail_judge(const uint8_t *catalogo, size_t catalogo_len,
+                          const uint8_t *ob_pun, size_t ob_pun_len,
+                          const uint8_t *ob_tex, size_t ob_tex_len,
+                          const uint8_t *ob_lin, size_t ob_lin_len,
+                          const uint8_t *tramo, size_t tramo_len,
+                          const uint8_t *vertice, size_t vertice_len,
+                          const uint8_t *nodo, size_t nodo_len);
+
+/* An answer taken apart: the reason's number, the place, and what else the reason tells (0 where it tells nothing else). */
+uint64_t canopyrail_reason(uint64_t answer);
+uint64_t canopyrail_file(uint64_t answer);
+uint64_t canopyrail_record(uint64_t answer);
+uint64_t canopyrail_field(uint64_t answer);
+uint64_t canopyrail_other(uint64_t answer);
+
+/* The number of whole records in a file's bytes; 0 where there is no file of the number. */
+size_t canopyrail_count(size_t file, const uint8_t *bytes, size_t len);
+
+/* The table of the files: fields and bytes of a record, where a field begins (from 0), its width. 0 of no file and of no field. */
+size_t canopyrail_fields(size_t file);
+size_t canopyrail_length(size_t file);
+size_t canopyrail_offset(size_t file, size_t field);
+size_t canopyrail_width(size_t file, size_t field);
+
+/*
+ * VALUES of one record are lent as four arrays, the value of field f at index f - 1:
+ *
+ *     numbers      an N field's value
+ *     coordinates  a coordinate's value, X, Y or Z, at the field of its digits; nothing is held at its sign
+ *     lengths      0: missing. Of a text: how many bytes it has. Of a number or a coordinate: not 0, it is given
+ *     texts        CANOPYRAIL_TEXT bytes a field: an A field's text, then blanks
+ *
+ * What stands where a field has no use of it isn't looked at in writing, and is 0 (blanks in texts) after reading.
+ */
+
+/*
+ * Reads record n (from 1) of the bytes of a file. 0: the four arrays hold its values in their first CANOPYRAIL_FIELDS places
+ * (CANOPYRAIL_FIELDS * CANOPYRAIL_TEXT in texts), and what lies past them is as it was. Else reason and field of the refusal (60, 66,
+ * 20 to 25; 61 of a lawful record whose values have no room), and the arrays are as they were.
+ */
+uint64_t canopyrail_read(size_t file, const uint8_t *bytes, size_t len, size_t n,
+                         uint64_t *numbers, size_t numbers_len,
+                         int64_t *coordinates, size_t coordinates_len,
+                         size_t *lengths, size_t lengths_len,
+                         uint8_t *texts, size_t texts_len);
+
+/*
+ * Writes one record of a file at the start of the room. 0: the first canopyrail_length(file) bytes of the room are the record, and the
+ * rest is as it was. Else reason and field of the refusal (60, 61, then 62 to 65), and the room is as it was. Past the end of a
+ * shorter array every value is missing.
+ */
+uint64_t canopyrail_write(size_t file,
+                          const uint64_t *numbers, size_t numbers_len,
+                          const int64_t *coordinates, size_t coordinates_len,
+                          const size_t *lengths, size_t lengths_len,
+                          const uint8_t *texts, size_t texts_len,
+                          uint8_t *room, size_t room_len);
+
+/* The four arrays in one, for convenience. */
+typedef struct canopyrail_values {
+    uint64_t numbers[CANOPYRAIL_FIELDS];
+    int64_t coordinates[CANOPYRAIL_FIELDS];
+    size_t lengths[CANOPYRAIL_FIELDS];
+    uint8_t texts[CANOPYRAIL_FIELDS * CANOPYRAIL_TEXT];
+} canopyrail_values;
+
+static inline uint64_t canopyrail_read_values(size_t file, const uint8_t *bytes, size_t len, size_t n, canopyrail_values *v)
+{
+    return canopyrail_read(file, bytes, len, n, v->numbers, CANOPYRAIL_FIELDS, v->coordinates, CANOPYRAIL_FIELDS,
+                           v->lengths, CANOPYRAIL_FIELDS, v->texts, sizeof v->texts);
+}
+
+static inline uint64_t canopyrail_write_values(size_t file, const canopyrail_values *v, uint8_t *room, size_t room_len)
+{
+    return canopyrail_write(file, v->numbers, CANOPYRAIL_FIELDS, v->coordinates, CANOPYRAIL_FIELDS,
+                            v->lengths, CANOPYRAIL_FIELDS, v->texts, sizeof v->texts, room, room_len);
+}
+
+#ifdef __cplusplus
+}
+#endif
+
+#endif
