@@ -1,7 +1,7 @@
 /*
  * canopyrail.h: a checker and codec for MIGRA v1 map deliveries (chain-node profile, seven files).
  *
- * Link libcanopyrail.a (x86-64 Linux, nothing else is needed beside it). Every call below is proved to meet its contract on every
+ * Link libcanopyrail.a (x86-64 Linux; of the C library it asks only memcpy and memset). Every call below is proved to meet its contract on every
  * input, damaged or empty, to stay within the memory that it is lent, and to end. docs/PROMISES.md says what is proved.
  *
  * The files are numbered
@@ -22,7 +22,7 @@
  *
  * ANSWERS. A call that can refuse answers with one number. 0 says that nothing is wrong. Any other is a reason with its place, and the
  * calls canopyrail_reason, _file, _record, _field and _other take it apart. As a decimal number it has the digits of
- * reason (2), file (2), record (5), field (2), other (5): 53 05 00001 07 00000.
+ * reason (2), file (2), record (5), field (2), other (5): 53 05 00001 07 00000. Calls on one record tell no file and no record: 0.
  */
 #ifndef CANOPYRAIL_H
 #define CANOPYRAIL_H
@@ -59,7 +59,7 @@ enum {
     CANOPYRAIL_OUTSIDE = 25,          /* outside its domain; - before zero is told at the sign */
     CANOPYRAIL_SAME_KEY = 30,         /* the key equals that of an earlier record of the file; other: that record */
     CANOPYRAIL_NO_RECORD = 40,        /* a reference names no record */
-    CANOPYRAIL_OTHER_TYPE = 41,       /* the code is catalogued under another type; other: the letter it is catalogued under */
+    CANOPYRAIL_OTHER_TYPE = 41,       /* the code is catalogued under another type; other: that type's letter, as a byte */
     CANOPYRAIL_ORDER_GAP = 50,        /* the vertex order is 0, or is over 1 and its line has no order one less */
     CANOPYRAIL_ORDER_ALONE = 51,      /* the vertex order is 1 and its line has no order 2 */
     CANOPYRAIL_START_ELSEWHERE = 52,  /* the line's vertex of order 1 lies elsewhere in X or Y than the start node */
@@ -101,11 +101,15 @@ uint64_t canopyrail_other(uint64_t answer);
 /* The number of whole records in a file's bytes; 0 where there is no file of the number. */
 size_t canopyrail_count(size_t file, const uint8_t *bytes, size_t len);
 
-/* The table of the files: fields and bytes of a record, where a field begins (from 0), its width. 0 of no file and of no field. */
+/*
+ * The table of the files: fields and bytes of a record; of a field where it begins (the bytes before it), its width, and what it holds:
+ * 1 a text, 2 a coordinate's sign, 3 a number, 4 a coordinate's digits. 0 of no file and of no field.
+ */
 size_t canopyrail_fields(size_t file);
 size_t canopyrail_length(size_t file);
 size_t canopyrail_offset(size_t file, size_t field);
 size_t canopyrail_width(size_t file, size_t field);
+size_t canopyrail_form(size_t file, size_t field);
 
 /*
  * VALUES of one record are lent as four arrays, the value of field f at index f - 1:

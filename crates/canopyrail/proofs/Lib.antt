@@ -1,1 +1,3 @@
 pub mod CallLaws
+pub mod Fits
+pub mod Promises

@@ -10,6 +10,10 @@ use lib.IntN.{ℤ, pos}
 use lib.ListN.{length, getD, take, drop}
 use Rattle.laws.specs.Row.{pick, row}
 use Rattle.field.specs.Texts.{padded, firstBytes}
+use Rattle.record.specs.declared.kind.Kind.{Kind}
+use Rattle.record.specs.declared.kind.Form.{Form}
+use Rattle.record.specs.declared.kind.Form.the-variants.{Words, Code, Tipo, Sense, Sign, Number, Size}
+use Rattle.record.specs.Table.{formAt, widthAt, offsetAt}
 use Rattle.record.specs.declared.reason.Reason.the-variants.{ShortRoom61}
 use Rattle.codec.specs.declared.values.Value.{Value}
 use Rattle.codec.specs.declared.values.Values.{Values}
@@ -19,6 +23,23 @@ use Rattle.codec.specs.declared.values.Reading.{Reading}
 use Rattle.codec.specs.Values.{valueAt}
 use Rattle.codec.specs.Calls.{readOf, Writes}
 use Rattle.canopyrail.specs.Answers.{answerWord, refusalWord}
+
+-- THE FIELDS, as a host is told of them: 0 where there is no field
+unfoldable pub lentOffset : Kind → ℕ → ℕ
+lentOffset k f = pick (eqb (widthAt k f) 0) 0 (offsetAt k f)
+
+-- 1 a text, 2 a coordinate's sign, 3 a number, 4 a coordinate's digits
+abbrev pub formNumber : Form → ℕ
+formNumber Words = 1
+formNumber Code = 1
+formNumber Tipo = 1
+formNumber Sense = 1
+formNumber Sign = 2
+formNumber Number = 3
+formNumber Size = 4
+
+unfoldable pub lentForm : Kind → ℕ → ℕ
+lentForm k f = pick (eqb (widthAt k f) 0) 0 (formNumber (formAt k f))
 
 -- VALUES PUT INTO LENT MEMORY
 -- a text's bytes; 1 of a number or a coordinate that is given

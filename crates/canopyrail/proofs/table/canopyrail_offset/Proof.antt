@@ -14,15 +14,15 @@ enum-told c = search needs
 enum-known-k : tie.Need-enum-known-k
 enum-known-k c = search needs
 
-offset-requires : tie.Need-offset-requires
-offset-requires c κs = search needs
+offset-in-requires : tie.Need-offset-in-requires
+offset-in-requires c κs = search needs
 
 returns : tie.Need-returns
 returns c = on-none _ _ _ (c .before .before .kind-of .ensures) (c .enum-told .given .1)
 
 returns-2 : tie.Need-returns-2
-returns-2 c = on-some _ _ _ _ (c .before .before .before .before .kind-of .ensures) (c .before .before .k .given .1) (c .offset .ensures .0)
+returns-2 c = on-some _ _ _ _ (c .before .before .before .before .kind-of .ensures) (c .before .before .k .given .1) (c .offset-in .ensures)
 
 pub canopyrail-offset-spec : {M : Type 1} → statement M
 canopyrail-offset-spec =
-    tie.close (tie.spec kind-of-requires enum-told enum-known-k offset-requires returns returns-2)
+    tie.close (tie.spec kind-of-requires enum-told enum-known-k offset-in-requires returns returns-2)

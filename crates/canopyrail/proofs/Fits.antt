@@ -1,0 +1,196 @@
+-- Every place that is shown fits the digits of an answer (and of the program's line): a record shown is at most 16,385.
+-- Assumes nothing.
+use Prim.Native.Nat.{ℕ, zero, suc, _+_, _*_, _-_, _/_, _%_, _≤_, _<_}
+use mathlib.Core.Bool.{Bool, true, false, _&&_}
+use mathlib.Core.List.{List, [], _∷_}
+use mathlib.Core.Path.{_≡_, refl, sym, ap, subst}
+use native.Mathlib.Nat.{min-le-left, eq-or-lt-of-le}
+use mathlib.Core.Logic.{_⊎_, inl, inr, ⊎-elim}
+use native.Mathlib.Omega.{arith}
+use lib.Dec.{eqb, ltb, leb}
+use lib.ListN.{length, getD}
+use borrow.Author.Tests.{leb-true, eqb-true, ltb-false, lt-ltb, le-ltb, eq-eqb}
+use Rattle.laws.specs.Nest.{before}
+use Rattle.laws.specs.Row.{pick}
+use Rattle.laws.proofs.RowLaws.{and-true}
+use Rattle.laws.proofs.FindLaws.{true-false}
+use Rattle.record.specs.declared.kind.Kind.{Kind}
+use Rattle.record.specs.declared.kind.Kind.the-variants.{Catalogo, ObPun, ObTex, ObLin, Tramo, Vertice, Nodo}
+use Rattle.record.specs.declared.reason.Break.{Break}
+use Rattle.record.specs.declared.reason.Finding.{Finding}
+use Rattle.record.specs.declared.reason.Finding.the-variants.{Broken}
+use Rattle.record.specs.Table.{fieldsOf, fileOf, lengthOf, limit}
+use Rattle.record.specs.Cut.{countOf}
+use Rattle.record.specs.Rules.{breaks10, twenties}
+use Rattle.record.specs.Breaks.{shapeTests}
+use Rattle.record.specs.Claims.{there, testsAt, broken}
+use Rattle.keys.specs.Delivery.{deliveryOf}
+use Rattle.keys.specs.Groups.{brokenBy}
+use Rattle.keys.specs.Findings.{keysBroken}
+use Rattle.topology.specs.Findings.{topologyBroken}
+use Rattle.judge.specs.Verdict.{Files, judged}
+use Rattle.judge.specs.Broken.{isBroken, placeAt, First, Judges}
+use Rattle.judge.proofs.Exact.{exact}
+
+-- THE KINDS
+file-small : (k : Kind) → fileOf k ≤ 7
+file-small Catalogo = omega arith
+file-small ObPun = omega arith
+file-small ObTex = omega arith
+file-small ObLin = omega arith
+file-small Tramo = omega arith
+file-small Vertice = omega arith
+file-small Nodo = omega arith
+
+fields-small : (k : Kind) → fieldsOf k ≤ 14
+fields-small Catalogo = omega arith
+fields-small ObPun = omega arith
+fields-small ObTex = omega arith
+fields-small ObLin = omega arith
+fields-small Tramo = omega arith
+fields-small Vertice = omega arith
+fields-small Nodo = omega arith
+
+-- a file that is not too long has at most 16,384 records
+count-small : (s : List ℕ) (k : Kind) → breaks10 s k ≡ false → countOf s k ≤ 16384
+unfolding breaks10 countOf
+count-small s Catalogo e = let l = ltb-false (16384 * 133) (length s) e in omega arith
+count-small s ObPun e = let l = ltb-false (16384 * 149) (length s) e in omega arith
+count-small s ObTex e = let l = ltb-false (16384 * 144) (length s) e in omega arith
+count-small s ObLin e = let l = ltb-false (16384 * 128) (length s) e in omega arith
+count-small s Tramo e = let l = ltb-false (16384 * 77) (length s) e in omega arith
+count-small s Vertice e = let l = ltb-false (16384 * 54) (length s) e in omega arith
+count-small s Nodo e = let l = ltb-false (16384 * 50) (length s) e in omega arith
+
+-- WHERE SOMETHING IS BROKEN: the tens of the reason bound the record and the field
+module _ (s : List ℕ) (k : Kind) (n i f : ℕ) where
+  shape-where : (u : ℕ) → getD (pick (eqb f 0) (shapeTests s k i) []) u false ≡ true → (i ≤ countOf s k + 1) × (f ≤ 14)
+  shape-where u e = go (eqb f 0) refl e
+    where
+      at : (u : ℕ) → getD (shapeTests s k i) u false ≡ true → i ≤ countOf s k + 1
+      at zero h = omega (arith, eqb-true i 0 (and-true (eqb i 0) (breaks10 s k) h .0))
+      at (suc zero) h = omega (arith, eqb-true i (countOf s k + 1) (and-true (eqb i (countOf s k + 1)) _ h .0))
+      at (suc (suc u)) h = absurd (true-false (sym h))
+
+      go : (b : Bool) → eqb f 0 ≡ b → getD (pick b (shapeTests s k i) []) u false ≡ true → (i ≤ countOf s k + 1) × (f ≤ 14)
+      go true q h = (at u h, omega (arith, eqb-true f 0 q))
+      go false q h = absurd (true-false (sym h))
+
+  there-where : (u : ℕ) (ts : List Bool) → getD (pick (there s k i f) ts []) u false ≡ true → (i ≤ countOf s k + 1) × (f ≤ 14)
+  there-where u ts e = go (there s k i f) refl e
+    where
+      go : (b : Bool) → there s k i f ≡ b → getD (pick b ts []) u false ≡ true → (i ≤ countOf s k + 1) × (f ≤ 14)
+      go true q h =
+          let p = and-true (leb 1 i && leb i (countOf s k)) (leb f (fieldsOf k)) q in
+          let r = and-true (leb 1 i) (leb i (countOf s k)) (p .0) in
+          (omega (arith, leb-true i (countOf s k) (r .1)), omega (arith, leb-true f (fieldsOf k) (p .1), fields-small k))
+      go false q h = absurd (true-false (sym h))
+
+-- of the higher tens, whose tables have at most 16,384 records
+by-where : (tests : ℕ → ℕ → ℕ → List Bool) (k : Kind) (m n i f : ℕ) → m ≤ 16384 → brokenBy tests k m n i f ≡ true → (i ≤ 16384) × (f ≤ 14)
+unfolding brokenBy
+by-where tests k m n i f l e =
+    let p = and-true (leb 1 i && leb i m && leb f (fieldsOf k)) (getD (tests (n / 10) (i - 1) f) (n % 10) false) e in
+    let q = and-true (leb 1 i && leb i m) (leb f (fieldsOf k)) (p .0) in
+    let r = and-true (leb 1 i) (leb i m) (q .0) in
+    (omega (arith, leb-true i m (r .1)), omega (arith, leb-true f (fieldsOf k) (q .1), fields-small k))
+
+-- of any reason: the shape's and the fields' by the file's own count, the others' by the table's
+module _ (files : Files) (n : ℕ) (k : Kind) (i f : ℕ) where
+  low : (t : ℕ) → n / 10 ≡ suc t → t < 2 → broken (files k) k n i f ≡ true → (i ≤ countOf (files k) k + 1) × (f ≤ 14)
+  unfolding broken testsAt
+  low zero q l e = shape-where (files k) k n i f (n % 10) (rw q at e)
+  low (suc zero) q l e = there-where (files k) k n i f (n % 10) _ (rw q at e)
+  low (suc (suc t)) q l e = absurd (omega arith)
+
+  keys-where : keysBroken (deliveryOf files) k n i f ≡ true → (i ≤ 16384) × (f ≤ 14)
+  unfolding keysBroken
+  keys-where e = by-where _ k (deliveryOf files k .count) n i f (min-le-left limit (countOf (files k) k)) e
+
+  topology-where : topologyBroken (deliveryOf files) k n i f ≡ true → (i ≤ 16384) × (f ≤ 14)
+  unfolding topologyBroken
+  topology-where e = by-where _ k (deliveryOf files k .count) n i f (min-le-left limit (countOf (files k) k)) e
+
+  -- a break is at the file's whole records plus 1 at most, where that is more than the limit; and at no field past the fourteenth
+  broken-where : isBroken files n k i f ≡ true → ((i ≤ countOf (files k) k + 1) ⊎ (i ≤ 16384)) × (f ≤ 14)
+  unfolding isBroken
+  broken-where e = go (n / 10) refl e
+    where
+      tests : List Bool
+      tests =
+          false
+          ∷ broken (files k) k n i f
+          ∷ broken (files k) k n i f
+          ∷ keysBroken (deliveryOf files) k n i f
+          ∷ keysBroken (deliveryOf files) k n i f
+          ∷ topologyBroken (deliveryOf files) k n i f
+          ∷ []
+
+      go : (t : ℕ) → n / 10 ≡ t → getD tests t false ≡ true → ((i ≤ countOf (files k) k + 1) ⊎ (i ≤ 16384)) × (f ≤ 14)
+      go zero q h = absurd (true-false (sym h))
+      go (suc zero) q h = let p = low 0 q (omega arith) h in (inl (p .0), p .1)
+      go (suc (suc zero)) q h = let p = low 1 q (omega arith) h in (inl (p .0), p .1)
+      go (suc (suc (suc zero))) q h = let p = keys-where h in (inr (p .0), p .1)
+      go (suc (suc (suc (suc zero)))) q h = let p = keys-where h in (inr (p .0), p .1)
+      go (suc (suc (suc (suc (suc zero))))) q h = let p = topology-where h in (inr (p .0), p .1)
+      go (suc (suc (suc (suc (suc (suc t)))))) q h = absurd (true-false (sym h))
+
+-- A PLACE THAT IS SHOWN: were its file too long, that would be told before
+long-broken : (files : Files) (k : Kind) → breaks10 (files k) k ≡ true → isBroken files 10 k 0 0 ≡ true
+unfolding isBroken broken testsAt
+long-broken files k e = rw e
+
+less-first : (x y : ℕ) (xs ys : List ℕ) → x < y → before (x ∷ xs) (y ∷ ys) ≡ true
+unfolding before
+less-first x y xs ys l = rw (lt-ltb x y l, before)
+
+less-next : (x : ℕ) (xs ys : List ℕ) → before xs ys ≡ true → before (x ∷ xs) (x ∷ ys) ≡ true
+unfolding before
+less-next x xs ys h = rw (le-ltb x x (omega arith), eq-eqb x x refl, before) h
+
+long-before : (k : Kind) (n i f : ℕ) → 1 ≤ n / 10 → 0 < i → before (placeAt 10 k 0 0) (placeAt n k i f) ≡ true
+long-before k n i f l h =
+    ⊎-elim
+    (λ (e : 1 ≡ n / 10). rw (← e) (less-next 1 _ _ (less-next (fileOf k) _ _ (less-first 0 i _ _ h))))
+    (λ (m : 1 < n / 10). less-first 1 (n / 10) _ _ m)
+    (eq-or-lt-of-le l)
+
+-- nothing of the lowest ten is a reason
+ten-up : (files : Files) (n : ℕ) (k : Kind) (i f : ℕ) → isBroken files n k i f ≡ true → 1 ≤ n / 10
+unfolding isBroken
+ten-up files n k i f e = go (n / 10) refl
+  where
+    go : (t : ℕ) → n / 10 ≡ t → 1 ≤ n / 10
+    go zero q = absurd (true-false (sym (rw q at e)))
+    go (suc t) q = omega arith
+
+record-small : (files : Files) (n : ℕ) (k : Kind) (i f : ℕ) → isBroken files n k i f ≡ true
+    → ((n' : ℕ) (k' : Kind) (i' f' : ℕ) → isBroken files n' k' i' f' ≡ true → before (placeAt n' k' i' f') (placeAt n k i f) ≡ true → ⊥)
+    → i ≤ 16385
+record-small files n k zero f e least = omega arith
+record-small files n k (suc i) f e least =
+    let l = long-before k n (suc i) f (ten-up files n k (suc i) f e) (omega arith) in
+    ⊎-elim
+    (λ (h : suc i ≤ countOf (files k) k + 1). omega (arith, count-small (files k) k (not-long l)))
+    (λ (h : suc i ≤ 16384). omega arith)
+    (broken-where files n k (suc i) f e .0)
+  where
+    not-long : before (placeAt 10 k 0 0) (placeAt n k (suc i) f) ≡ true → breaks10 (files k) k ≡ false
+    not-long l = go (breaks10 (files k) k) refl
+      where
+        go : (b : Bool) → breaks10 (files k) k ≡ b → b ≡ false
+        go true q = absurd (least 10 k 0 0 (long-broken files k q) l)
+        go false q = refl
+
+pub place-fits : (files : Files) (b : Break) → judged files ≡ Broken b → (b .file ≤ 7) × (b .«record» ≤ 16385) × (b .field ≤ 14)
+unfolding Judges
+place-fits files b e = go (subst (Judges files) e (exact files))
+  where
+    go : First files b → (b .file ≤ 7) × (b .«record» ≤ 16385) × (b .field ≤ 14)
+    go w =
+        let p = broken-where files (w .n) (w .k) (w .i) (w .f) (w .really) in
+        let s = w .shown in (
+          rw (ap (λ (x : Break). x .file) s) (file-small (w .k)),
+          rw (ap (λ (x : Break). x .«record») s) (record-small files (w .n) (w .k) (w .i) (w .f) (w .really) (w .least)),
+          rw (ap (λ (x : Break). x .field) s) (p .1),
+        )

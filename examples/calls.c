@@ -1,0 +1,698 @@
+/*
+ * calls.c: checks the calls of libcanopyrail.a as a C program sees them.
+ *
+ *     cc -std=c11 -I include examples/calls.c libcanopyrail.a -o calls && ./calls
+ *
+ * Prints the number of checks and exits with 0, or prints the first check that fails, with its line
+ * in this file, and exits with 1. A call that touches a byte too many ends the program. For that
+ * everything is done three times: with memory in blocks of malloc of the exact size, which a
+ * sanitizer watches; in blocks that end just before a page that may not be touched; and in blocks
+ * that begin just after one. The pages also see what a library does that has no sanitizer in it.
+ */
+#define _DEFAULT_SOURCE /* mmap with MAP_ANONYMOUS */
+#include <stdio.h>
+#include <stdlib.h>
+#include <string.h>
+#include <sys/mman.h>
+#include <unistd.h>
+
+#include "canopyrail.h"
+
+enum { CATALOGO = 1, OB_PUN, OB_TEX, OB_LIN, TRAMO, VERTICE, NODO, FILES = 7 };
+enum { FIELDS = CANOPYRAIL_FIELDS, TEXT = CANOPYRAIL_TEXT, TEXTS = FIELDS * TEXT };
+
+static unsigned long checks;
+
+static void need(int holds, int line, const char *what)
+{
+    if (!holds) {
+        printf("calls.c:%d: %s\n", line, what);
+        exit(1);
+    }
+}
+
+/* What must hold for this program to go on, and what is checked of the library. */
+#define NEED(what) need((what), __LINE__, #what)
+#define CHECK(what) (NEED(what), checks++)
+
+/* ------------------------------------------------------------------------------ lent memory */
+
+enum manner { EXACT, FENCE_AFTER, FENCE_BEFORE };
+
+static enum manner manner;
+
+typedef struct block {
+    struct block *next;
+    void *start;
+    size_t whole; /* 0: from malloc */
+} block;
+
+static block *blocks;
+
+static void keep(void *start, size_t whole)
+{
+    block *b = malloc(sizeof *b);
+
+    NEED(start != NULL && b != NULL);
+    *b = (block){blocks, start, whole};
+    blocks = b;
+}
+
+/* Whole pages for the bytes, between two pages that may not be touched. */
+static uint8_t *fenced(size_t size)
+{
+    size_t page = (size_t)sysconf(_SC_PAGESIZE);
+    size_t inner = (size + page - 1) / page * page;
+    uint8_t *start = mmap(NULL, inner + 2 * page, PROT_NONE, MAP_PRIVATE | MAP_ANONYMOUS, -1, 0);
+
+    NEED(start != MAP_FAILED);
+    keep(start, inner + 2 * page);
+    if (inner > 0)
+        NEED(mprotect(start + page, inner, PROT_READ | PROT_WRITE) == 0);
+    return manner == FENCE_BEFORE ? start + page : start + page + inner - size;
+}
+
+/* Memory for so many bytes and no more; of no bytes, null or a pointer that may not be followed. */
+static void *lend(size_t size)
+{
+    if (manner != EXACT)
+        return fenced(size);
+    if (size == 0)
+        return NULL;
+    void *start = malloc(size);
+    keep(start, 0);
+    return start;
+}
+
+static uint8_t *lend_copy(const void *bytes, size_t size)
+{
+    uint8_t *copy = lend(size);
+
+    if (size > 0)
+        memcpy(copy, bytes, size);
+    return copy;
+}
+
+static void give_back(void)
+{
+    while (blocks != NULL) {
+        block *next = blocks->next;
+        if (blocks->whole == 0)
+            free(blocks->start);
+        else
+            munmap(blocks->start, blocks->whole);
+        free(blocks);
+        blocks = next;
+    }
+}
+
+/* Memory filled with a pattern that no call would write. */
+static void *lend_pattern(size_t size)
+{
+    uint8_t *bytes = lend(size);
+
+    for (size_t i = 0; i < size; i++)
+        bytes[i] = (uint8_t)(0xA5 ^ (i * 7));
+    return bytes;
+}
+
+/* Whether the bytes from `from` up to `size` still have the pattern. */
+static int untouched(const void *memory, size_t from, size_t size)
+{
+    const uint8_t *bytes = memory;
+
+    for (size_t i = from; i < size; i++)
+        if (bytes[i] != (uint8_t)(0xA5 ^ (i * 7)))
+            return 0;
+    return 1;
+}
+
+/* ------------------------------------------------------------------------------ deliveries */
+
+typedef struct {
+    char bytes[1024];
+    size_t length;
+} file;
+
+typedef struct {
+    file files[FILES + 1];
+} delivery;
+
+static void add(file *f, const char *record)
+{
+    size_t length = strlen(record);
+
+    NEED(f->length + length < sizeof f->bytes);
+    memcpy(f->bytes + f->length, record, length + 1);
+    f->length += length;
+}
+
+static void add_code(delivery *d, const char *code, const char *type)
+{
+    char record[256];
+
+    snprintf(record, sizeof record, "%7s|%1s|%60s|%60s\r\n", code, type, "", "");
+    add(&d->files[CATALOGO], record);
+}
+
+static void add_object(delivery *d, const char *id, const char *code, const char *name)
+{
+    char record[256];
+
+    snprintf(record, sizeof record, "%10s|%10s|%7s|%-60s|%1s|%9s|%1s|%10s|%1s|%8s\r\n", id, "",
+             code, name, "", "", "", "", "", "");
+    add(&d->files[OB_LIN], record);
+}
+
+static void add_tramo(delivery *d, const char *id, const char *object, const char *code,
+                      const char *start, const char *end)
+{
+    char record[256];
+
+    snprintf(record, sizeof record, "%10s|%10s|%10s|%10s|%7s|%10s|%10s|%1s\r\n", id, object, "", "",
+             code, start, end, "");
+    add(&d->files[TRAMO], record);
+}
+
+static void add_vertex(delivery *d, const char *line, const char *order, const char *x,
+                       const char *y)
+{
+    char record[256];
+
+    snprintf(record, sizeof record, "%10s|%5s|+|%9s|+|%10s|%1s|%8s\r\n", line, order, x, y, "", "");
+    add(&d->files[VERTICE], record);
+}
+
+static void add_node(delivery *d, const char *id, const char *x, const char *y)
+{
+    char record[256];
+
+    snprintf(record, sizeof record, "%10s|%1s|+|%9s|+|%10s|%1s|%8s\r\n", id, "", x, y, "", "");
+    add(&d->files[NODO], record);
+}
+
+/* Document 01's small delivery S. */
+static delivery small(void)
+{
+    delivery d = {0};
+
+    add_code(&d, "0100000", "L");
+    add_code(&d, "0100001", "T");
+    add_object(&d, "0000000001", "0100000", "");
+    add_tramo(&d, "0000000001", "0000000001", "0100001", "0000000001", "0000000002");
+    add_vertex(&d, "0000000001", "00001", "000000100", "0000000200");
+    add_vertex(&d, "0000000001", "00002", "000000140", "0000000200");
+    add_node(&d, "0000000001", "000000100", "0000000200");
+    add_node(&d, "0000000002", "000000140", "0000000200");
+    return d;
+}
+
+/* S with some bytes of a record overwritten, from its field on. */
+static delivery changed(size_t f, size_t record, size_t field, const char *text)
+{
+    delivery d = small();
+    size_t at = (record - 1) * canopyrail_length(f) + canopyrail_offset(f, field);
+
+    NEED(at + strlen(text) <= d.files[f].length);
+    memcpy(d.files[f].bytes + at, text, strlen(text));
+    return d;
+}
+
+static uint64_t judge(const delivery *d)
+{
+    const uint8_t *b[FILES + 1];
+    size_t n[FILES + 1];
+
+    for (size_t f = 1; f <= FILES; f++) {
+        n[f] = d->files[f].length;
+        b[f] = lend_copy(d->files[f].bytes, n[f]);
+    }
+    uint64_t answer = canopyrail_judge(b[1], n[1], b[2], n[2], b[3], n[3], b[4], n[4], b[5], n[5],
+                                       b[6], n[6], b[7], n[7]);
+    for (size_t f = 1; f <= FILES; f++)
+        CHECK(n[f] == 0 || memcmp(b[f], d->files[f].bytes, n[f]) == 0);
+    give_back();
+    return answer;
+}
+
+static int is(uint64_t answer, uint64_t reason, uint64_t f, uint64_t record, uint64_t field,
+              uint64_t other)
+{
+    return canopyrail_reason(answer) == reason && canopyrail_file(answer) == f &&
+           canopyrail_record(answer) == record && canopyrail_field(answer) == field &&
+           canopyrail_other(answer) == other;
+}
+
+/* Of a refusal of the calls on one record, reason and field. */
+static int refuses(uint64_t answer, uint64_t reason, uint64_t field)
+{
+    return canopyrail_reason(answer) == reason && canopyrail_field(answer) == field;
+}
+
+static void check_accepted(void)
+{
+    static const size_t counts[FILES + 1] = {0, 2, 0, 0, 1, 1, 2, 2};
+    delivery s = small();
+    delivery none = {0};
+    delivery bar = changed(OB_LIN, 1, 4, "a|b");
+
+    CHECK(judge(&s) == 0);
+    CHECK(judge(&none) == 0);
+    CHECK(judge(&bar) == 0);
+    CHECK(canopyrail_judge(NULL, 0, NULL, 0, NULL, 0, NULL, 0, NULL, 0, NULL, 0, NULL, 0) == 0);
+    for (size_t f = 1; f <= FILES; f++) {
+        const uint8_t *bytes = lend_copy(s.files[f].bytes, s.files[f].length);
+        CHECK(canopyrail_count(f, bytes, s.files[f].length) == counts[f]);
+        CHECK(canopyrail_count(f, NULL, 0) == 0);
+        CHECK(canopyrail_count(0, bytes, s.files[f].length) == 0);
+        CHECK(canopyrail_count(8, bytes, s.files[f].length) == 0);
+        give_back();
+    }
+    CHECK(is(0, 0, 0, 0, 0, 0));
+}
+
+static void check_cases(void)
+{
+    delivery d = changed(NODO, 2, 4, "000000141");
+
+    CHECK(is(judge(&d), CANOPYRAIL_END_ELSEWHERE, TRAMO, 1, 7, 0));
+    CHECK(judge(&d) == UINT64_C(5305000010700000));
+    d = changed(VERTICE, 2, 2, "00003");
+    CHECK(is(judge(&d), CANOPYRAIL_ORDER_ALONE, VERTICE, 1, 2, 0));
+    d = small();
+    d.files[NODO].length = 51;
+    CHECK(is(judge(&d), CANOPYRAIL_RAGGED_FILE, NODO, 2, 0, 0));
+    d = changed(NODO, 1, 3, "-|000000000");
+    CHECK(is(judge(&d), CANOPYRAIL_OUTSIDE, NODO, 1, 3, 0));
+    d = changed(NODO, 1, 4, "       11");
+    CHECK(is(judge(&d), CANOPYRAIL_NOT_NUMBER, NODO, 1, 4, 0));
+    d = changed(NODO, 2, 1, "0000000001");
+    CHECK(is(judge(&d), CANOPYRAIL_SAME_KEY, NODO, 2, 1, 1));
+    d = changed(TRAMO, 1, 7, "0000000003");
+    CHECK(is(judge(&d), CANOPYRAIL_NO_RECORD, TRAMO, 1, 7, 0));
+    d = changed(TRAMO, 1, 5, "0100000");
+    CHECK(is(judge(&d), CANOPYRAIL_OTHER_TYPE, TRAMO, 1, 5, 'L'));
+    d = small();
+    add_node(&d, "0000000003", "000000100", "0000000200");
+    CHECK(is(judge(&d), CANOPYRAIL_SAME_PLACE, NODO, 3, 0, 1));
+    d = small();
+    add_node(&d, "0000000003", "000000000", "0000000000");
+    CHECK(is(judge(&d), CANOPYRAIL_IDLE_NODE, NODO, 3, 0, 0));
+}
+
+static uint64_t judge_nodes(const uint8_t *nodes, size_t length)
+{
+    return canopyrail_judge(NULL, 0, NULL, 0, NULL, 0, NULL, 0, NULL, 0, NULL, 0, nodes, length);
+}
+
+/* A file one byte over the limit, and one of just the limit. */
+static void check_long_file(void)
+{
+    size_t most = CANOPYRAIL_RECORDS * canopyrail_length(NODO);
+    uint8_t *nodes = lend(most + 1);
+
+    memset(nodes, '0', most + 1);
+    CHECK(is(judge_nodes(nodes, most + 1), CANOPYRAIL_LONG_FILE, NODO, 0, 0, 0));
+    CHECK(is(judge_nodes(nodes, most), CANOPYRAIL_BAD_END, NODO, 1, 0, 0));
+    CHECK(canopyrail_count(NODO, nodes, most + 1) == CANOPYRAIL_RECORDS);
+    give_back();
+}
+
+/* Every beginning of every file of S, the other files whole. */
+static void check_beginnings(void)
+{
+    for (size_t f = 1; f <= FILES; f++) {
+        delivery d = small();
+        for (size_t length = d.files[f].length; length-- > 0;) {
+            d.files[f].length = length;
+            uint64_t answer = judge(&d);
+            size_t whole = length / canopyrail_length(f);
+            if (length % canopyrail_length(f) != 0)
+                CHECK(is(answer, CANOPYRAIL_RAGGED_FILE, f, whole + 1, 0, 0));
+        }
+    }
+}
+
+static void check_table(void)
+{
+    static const size_t lengths[FILES + 1] = {0, 133, 149, 144, 128, 77, 54, 50};
+    static const size_t fields[FILES + 1] = {0, 4, 13, 14, 10, 8, 8, 8};
+
+    for (size_t f = 1; f <= FILES; f++) {
+        size_t at = 0;
+        CHECK(canopyrail_length(f) == lengths[f]);
+        CHECK(canopyrail_fields(f) == fields[f]);
+        for (size_t field = 1; field <= fields[f]; field++) {
+            CHECK(canopyrail_offset(f, field) == at);
+            CHECK(canopyrail_width(f, field) > 0);
+            at += canopyrail_width(f, field) + 1;
+        }
+        CHECK(at + 1 == lengths[f]);
+        CHECK(canopyrail_width(f, 0) == 0);
+        CHECK(canopyrail_width(f, fields[f] + 1) == 0);
+        CHECK(canopyrail_width(f, SIZE_MAX) == 0);
+    }
+    CHECK(canopyrail_length(0) == 0 && canopyrail_length(8) == 0);
+    CHECK(canopyrail_fields(0) == 0 && canopyrail_fields(SIZE_MAX) == 0);
+    CHECK(canopyrail_offset(0, 1) == 0 && canopyrail_width(8, 1) == 0);
+}
+
+/* ------------------------------------------------------------------------------ one record */
+
+/* The four arrays, each lent apart with its own length in elements. */
+typedef struct {
+    uint64_t *numbers;
+    int64_t *coordinates;
+    size_t *lengths;
+    uint8_t *texts;
+    size_t numbers_len, coordinates_len, lengths_len, texts_len;
+} arrays;
+
+static arrays lend_arrays(size_t numbers, size_t coordinates, size_t lengths, size_t texts)
+{
+    return (arrays){
+        lend_pattern(numbers * sizeof(uint64_t)),
+        lend_pattern(coordinates * sizeof(int64_t)),
+        lend_pattern(lengths * sizeof(size_t)),
+        lend_pattern(texts),
+        numbers,
+        coordinates,
+        lengths,
+        texts,
+    };
+}
+
+static int arrays_untouched(const arrays *a, size_t fields)
+{
+    return untouched(a->numbers, fields * sizeof(uint64_t), a->numbers_len * sizeof(uint64_t)) &&
+           untouched(a->coordinates, fields * sizeof(int64_t),
+                     a->coordinates_len * sizeof(int64_t)) &&
+           untouched(a->lengths, fields * sizeof(size_t), a->lengths_len * sizeof(size_t)) &&
+           untouched(a->texts, fields * TEXT, a->texts_len);
+}
+
+static uint64_t read_arrays(size_t f, const uint8_t *bytes, size_t len, size_t n, const arrays *a)
+{
+    return canopyrail_read(f, bytes, len, n, a->numbers, a->numbers_len, a->coordinates,
+                           a->coordinates_len, a->lengths, a->lengths_len, a->texts, a->texts_len);
+}
+
+static uint64_t write_arrays(size_t f, const arrays *a, uint8_t *room, size_t room_len)
+{
+    return canopyrail_write(f, a->numbers, a->numbers_len, a->coordinates, a->coordinates_len,
+                            a->lengths, a->lengths_len, a->texts, a->texts_len, room, room_len);
+}
+
+/* Values in lent arrays, cut to some number of fields. */
+static arrays lend_values(const canopyrail_values *v, size_t fields)
+{
+    return (arrays){
+        (uint64_t *)(void *)lend_copy(v->numbers, fields * sizeof(uint64_t)),
+        (int64_t *)(void *)lend_copy(v->coordinates, fields * sizeof(int64_t)),
+        (size_t *)(void *)lend_copy(v->lengths, fields * sizeof(size_t)),
+        lend_copy(v->texts, fields * TEXT),
+        fields,
+        fields,
+        fields,
+        fields * TEXT,
+    };
+}
+
+static canopyrail_values no_values(void)
+{
+    canopyrail_values v = {0};
+
+    memset(v.texts, ' ', sizeof v.texts);
+    return v;
+}
+
+static void give_number(canopyrail_values *v, size_t field, uint64_t number)
+{
+    v->numbers[field - 1] = number;
+    v->lengths[field - 1] = 1;
+}
+
+static void give_coordinate(canopyrail_values *v, size_t field, int64_t number)
+{
+    v->coordinates[field - 1] = number;
+    v->lengths[field - 1] = 1;
+}
+
+static void give_text(canopyrail_values *v, size_t field, const char *text)
+{
+    NEED(strlen(text) <= TEXT);
+    memcpy(v->texts + (field - 1) * TEXT, text, strlen(text));
+    v->lengths[field - 1] = strlen(text);
+}
+
+static canopyrail_values node_at(int64_t x, int64_t y)
+{
+    canopyrail_values v = no_values();
+
+    give_number(&v, 1, 1);
+    give_coordinate(&v, 4, x);
+    give_coordinate(&v, 6, y);
+    return v;
+}
+
+/* Writes in lent memory of the exact size; a refusal must leave the room as it was. */
+static uint64_t write_exactly(size_t f, const canopyrail_values *v, size_t fields, size_t room_len)
+{
+    arrays a = lend_values(v, fields);
+    uint8_t *room = lend_pattern(room_len);
+    uint64_t answer = write_arrays(f, &a, room, room_len);
+
+    CHECK(untouched(room, answer == 0 ? canopyrail_length(f) : 0, room_len));
+    give_back();
+    return answer;
+}
+
+static void check_case_14(void)
+{
+    static const char written[] = "0000000001| |+|999999999|+|0000000200| |        \r\n";
+    canopyrail_values v = node_at(999999999, 200);
+    uint8_t *room = lend_pattern(50);
+
+    CHECK(canopyrail_write_values(NODO, &v, room, 50) == 0);
+    CHECK(memcmp(room, written, 50) == 0);
+    give_back();
+    v = node_at(1000000000, 200);
+    CHECK(refuses(write_exactly(NODO, &v, FIELDS, 50), CANOPYRAIL_TOO_LARGE, 4));
+    v = node_at(-999999999, 200);
+    CHECK(write_exactly(NODO, &v, FIELDS, 50) == 0);
+    v = node_at(INT64_MIN, 200);
+    CHECK(refuses(write_exactly(NODO, &v, FIELDS, 50), CANOPYRAIL_TOO_LARGE, 4));
+}
+
+/* Whether reading what was written gives the same values. */
+static void check_round_trip(size_t f, const canopyrail_values *v)
+{
+    size_t length = canopyrail_length(f);
+    uint8_t *room = lend_pattern(length + 3);
+    arrays given = lend_values(v, FIELDS);
+    arrays read = lend_arrays(FIELDS, FIELDS, FIELDS, TEXTS);
+
+    CHECK(write_arrays(f, &given, room, length + 3) == 0);
+    CHECK(untouched(room, length, length + 3));
+    uint8_t *record = lend_copy(room, length);
+    CHECK(read_arrays(f, record, length, 1, &read) == 0);
+    CHECK(memcmp(read.numbers, v->numbers, sizeof v->numbers) == 0);
+    CHECK(memcmp(read.coordinates, v->coordinates, sizeof v->coordinates) == 0);
+    CHECK(memcmp(read.lengths, v->lengths, sizeof v->lengths) == 0);
+    CHECK(memcmp(read.texts, v->texts, sizeof v->texts) == 0);
+    uint8_t *again = lend_pattern(length);
+    CHECK(write_arrays(f, &read, again, length) == 0);
+    CHECK(memcmp(again, record, length) == 0);
+    give_back();
+}
+
+static void check_round_trips(void)
+{
+    canopyrail_values v = no_values();
+
+    give_text(&v, 1, "0100000");
+    give_text(&v, 2, "L");
+    give_text(&v, 3, "NA");
+    give_text(&v, 4, "a|b \xF1 012345678901234567890123456789012345678901234567890123");
+    check_round_trip(CATALOGO, &v);
+
+    v = no_values();
+    give_number(&v, 1, 0);
+    give_number(&v, 3, 9999999999);
+    give_text(&v, 4, "N.D.");
+    give_number(&v, 6, 35959);
+    give_number(&v, 7, 999);
+    give_coordinate(&v, 9, -999999999);
+    give_coordinate(&v, 11, 9999999999);
+    give_coordinate(&v, 13, -1);
+    check_round_trip(OB_PUN, &v);
+
+    v = no_values();
+    give_number(&v, 1, 7);
+    give_text(&v, 3, "0300000");
+    give_text(&v, 4, "Camino");
+    give_number(&v, 5, 0);
+    give_number(&v, 8, 9);
+    give_coordinate(&v, 10, 0);
+    give_coordinate(&v, 12, -9999999999);
+    give_coordinate(&v, 14, 99999999);
+    check_round_trip(OB_TEX, &v);
+
+    v = no_values();
+    give_number(&v, 1, 1);
+    give_text(&v, 3, "0100000");
+    check_round_trip(OB_LIN, &v);
+    give_coordinate(&v, 6, 5);
+    give_coordinate(&v, 8, -5);
+    check_round_trip(OB_LIN, &v);
+
+    v = no_values();
+    give_number(&v, 1, 1);
+    give_number(&v, 2, 1);
+    give_text(&v, 5, "0100001");
+    give_number(&v, 6, 1);
+    give_number(&v, 7, 2);
+    give_text(&v, 8, "-");
+    check_round_trip(TRAMO, &v);
+
+    v = node_at(100, -200);
+    give_number(&v, 2, 99999);
+    check_round_trip(VERTICE, &v);
+
+    v = node_at(100, -200);
+    give_text(&v, 2, "E");
+    check_round_trip(NODO, &v);
+}
+
+/* Reads in lent memory; a refusal must leave it as it was. */
+static uint64_t read_exactly(size_t f, const char *bytes, size_t len, size_t n)
+{
+    const uint8_t *lent = lend_copy(bytes, len);
+    arrays a = lend_arrays(FIELDS, FIELDS, FIELDS, TEXTS);
+    uint64_t answer = read_arrays(f, lent, len, n, &a);
+
+    CHECK(answer == 0 || arrays_untouched(&a, 0));
+    CHECK(len == 0 || memcmp(lent, bytes, len) == 0);
+    give_back();
+    return answer;
+}
+
+static void check_read_refusals(void)
+{
+    delivery s = small();
+    const char *nodes = s.files[NODO].bytes;
+    delivery bad = changed(NODO, 1, 4, "       11");
+
+    CHECK(read_exactly(NODO, nodes, 100, 2) == 0);
+    CHECK(refuses(read_exactly(0, nodes, 100, 1), CANOPYRAIL_NO_FILE, 0));
+    CHECK(refuses(read_exactly(8, nodes, 100, 1), CANOPYRAIL_NO_FILE, 0));
+    CHECK(refuses(read_exactly(SIZE_MAX, NULL, 0, 0), CANOPYRAIL_NO_FILE, 0));
+    CHECK(refuses(read_exactly(NODO, nodes, 100, 0), CANOPYRAIL_NO_SUCH_RECORD, 0));
+    CHECK(refuses(read_exactly(NODO, nodes, 100, 3), CANOPYRAIL_NO_SUCH_RECORD, 0));
+    CHECK(refuses(read_exactly(NODO, nodes, 99, 2), CANOPYRAIL_NO_SUCH_RECORD, 0));
+    CHECK(refuses(read_exactly(NODO, nodes, 100, SIZE_MAX), CANOPYRAIL_NO_SUCH_RECORD, 0));
+    CHECK(refuses(read_exactly(NODO, NULL, 0, 1), CANOPYRAIL_NO_SUCH_RECORD, 0));
+    CHECK(refuses(read_exactly(NODO, bad.files[NODO].bytes, 100, 1), CANOPYRAIL_NOT_NUMBER, 4));
+    CHECK(read_exactly(NODO, bad.files[NODO].bytes, 100, 2) == 0);
+    CHECK(refuses(read_exactly(VERTICE, nodes, 100, 1), CANOPYRAIL_BAD_END, 0));
+}
+
+/* A lawful record whose values have too little room in one of the arrays, or more than enough. */
+static void check_read_room(void)
+{
+    delivery s = small();
+    size_t len = s.files[NODO].length;
+    const char *bytes = s.files[NODO].bytes;
+
+    for (size_t less = 1; less <= FIELDS; less++) {
+        const uint8_t *nodes = lend_copy(bytes, len);
+        size_t few = FIELDS - less;
+        arrays tries[4] = {
+            lend_arrays(few, FIELDS, FIELDS, TEXTS),
+            lend_arrays(FIELDS, few, FIELDS, TEXTS),
+            lend_arrays(FIELDS, FIELDS, few, TEXTS),
+            lend_arrays(FIELDS, FIELDS, FIELDS, TEXTS - less),
+        };
+        for (size_t t = 0; t < 4; t++) {
+            CHECK(refuses(read_arrays(NODO, nodes, len, 1, &tries[t]), CANOPYRAIL_SHORT_ROOM, 0));
+            CHECK(arrays_untouched(&tries[t], 0));
+        }
+        give_back();
+    }
+    const uint8_t *nodes = lend_copy(bytes, len);
+    arrays none = lend_arrays(0, 0, 0, 0);
+    CHECK(refuses(read_arrays(NODO, nodes, len, 1, &none), CANOPYRAIL_SHORT_ROOM, 0));
+    arrays ample = lend_arrays(FIELDS + 3, FIELDS + 1, FIELDS + 2, TEXTS + 5);
+    CHECK(read_arrays(NODO, nodes, len, 2, &ample) == 0);
+    CHECK(arrays_untouched(&ample, FIELDS));
+    CHECK(ample.numbers[0] == 2 && ample.coordinates[3] == 140 && ample.coordinates[5] == 200);
+    CHECK(ample.lengths[0] != 0 && ample.lengths[1] == 0 && ample.lengths[7] == 0);
+    give_back();
+}
+
+static void check_write_refusals(void)
+{
+    canopyrail_values v = node_at(100, 200);
+
+    for (size_t room = 0; room < 50; room++)
+        CHECK(refuses(write_exactly(NODO, &v, FIELDS, room), CANOPYRAIL_SHORT_ROOM, 0));
+    for (size_t room = 50; room < 60; room++)
+        CHECK(write_exactly(NODO, &v, FIELDS, room) == 0);
+    CHECK(refuses(write_exactly(0, &v, FIELDS, 50), CANOPYRAIL_NO_FILE, 0));
+    CHECK(refuses(write_exactly(8, &v, FIELDS, 50), CANOPYRAIL_NO_FILE, 0));
+    CHECK(refuses(write_exactly(SIZE_MAX, &v, 0, 0), CANOPYRAIL_NO_FILE, 0));
+    /* Past the end of shorter arrays every value is missing. */
+    CHECK(write_exactly(NODO, &v, 6, 50) == 0);
+    CHECK(refuses(write_exactly(NODO, &v, 5, 50), CANOPYRAIL_NOT_GIVEN, 5));
+    CHECK(refuses(write_exactly(NODO, &v, 3, 50), CANOPYRAIL_NOT_GIVEN, 3));
+    CHECK(refuses(write_exactly(NODO, &v, 0, 50), CANOPYRAIL_NOT_GIVEN, 1));
+    give_number(&v, 1, 10000000000);
+    CHECK(refuses(write_exactly(NODO, &v, FIELDS, 50), CANOPYRAIL_TOO_LARGE, 1));
+}
+
+static void check_texts(void)
+{
+    canopyrail_values v = no_values();
+
+    give_text(&v, 1, "0100000");
+    give_text(&v, 2, "L");
+    CHECK(write_exactly(CATALOGO, &v, FIELDS, 133) == 0);
+    memset(v.texts + 2 * TEXT, 'a', TEXT);
+    v.lengths[2] = TEXT;
+    CHECK(write_exactly(CATALOGO, &v, FIELDS, 133) == 0);
+    v.lengths[2] = TEXT + 1;
+    CHECK(refuses(write_exactly(CATALOGO, &v, FIELDS, 133), CANOPYRAIL_BAD_TEXT, 3));
+    v.lengths[2] = SIZE_MAX;
+    CHECK(refuses(write_exactly(CATALOGO, &v, FIELDS, 133), CANOPYRAIL_BAD_TEXT, 3));
+    v.lengths[2] = 0;
+    give_text(&v, 1, "NA");
+    CHECK(refuses(write_exactly(CATALOGO, &v, FIELDS, 133), CANOPYRAIL_NOT_GIVEN, 1));
+    give_text(&v, 1, "0100000");
+    give_text(&v, 2, "S");
+    CHECK(refuses(write_exactly(CATALOGO, &v, FIELDS, 133), CANOPYRAIL_UNFIT, 2));
+    give_text(&v, 2, "\n");
+    CHECK(refuses(write_exactly(CATALOGO, &v, FIELDS, 133), CANOPYRAIL_BAD_TEXT, 2));
+}
+
+static void check_all(void)
+{
+    check_table();
+    check_accepted();
+    check_cases();
+    check_long_file();
+    check_beginnings();
+    check_case_14();
+    check_round_trips();
+    check_read_refusals();
+    check_read_room();
+    check_write_refusals();
+    check_texts();
+}
+
+int main(void)
+{
+    for (manner = EXACT; manner <= FENCE_BEFORE; manner++)
+        check_all();
+    printf("%lu checks\n", checks);
+    return 0;
+}

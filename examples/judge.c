@@ -1,0 +1,200 @@
+/*
+ * judge.c: judges the delivery in a directory with libcanopyrail.a.
+ *
+ *     cc -std=c11 -I include examples/judge.c libcanopyrail.a -o judge
+ *     ./judge DIR
+ *
+ * Prints the verdict's line. Of a refused delivery it then prints the values of the record that the
+ * break is in, a field a line, or why that record can't be read.
+ *
+ * Exit status: 0 accepted, 1 refused, 2 could not judge.
+ */
+#include <errno.h>
+#include <inttypes.h>
+#include <stdio.h>
+#include <stdlib.h>
+#include <string.h>
+
+#include "canopyrail.h"
+
+enum { FILES = 7, ACCEPTED = 0, REFUSED = 1, FAILED = 2 };
+
+static const char *const names[FILES + 1] = {
+    "", "CATALOGO", "OB_PUN", "OB_TEX", "OB_LIN", "TRAMO", "VERTICE", "NODO",
+};
+
+/* What a field holds, by canopyrail_form. */
+enum { TEXT = 1, SIGN = 2, NUMBER = 3, COORDINATE = 4 };
+
+/* A file in memory. No bytes are (NULL, 0). */
+typedef struct {
+    uint8_t *bytes;
+    size_t length;
+} held;
+
+/* Reads at most `most` bytes of an open file. Answers whether there was no trouble. */
+static int read_bytes(FILE *source, size_t most, held *file)
+{
+    size_t room = 0;
+
+    while (file->length < most) {
+        if (file->length == room) {
+            size_t more = room < 4096 ? 4096 : room * 2;
+            uint8_t *bytes = realloc(file->bytes, more);
+            if (bytes == NULL)
+                return 0;
+            file->bytes = bytes;
+            room = more;
+        }
+        size_t wanted = (room < most ? room : most) - file->length;
+        size_t got = fread(file->bytes + file->length, 1, wanted, source);
+        file->length += got;
+        if (got < wanted)
+            break;
+    }
+    return !ferror(source);
+}
+
+/*
+ * Reads a file of the delivery. An absent one is empty. One byte past the limit is enough for the
+ * library to tell that a file is too long, so no more is read.
+ */
+static int read_file(const char *path, size_t most, held *file)
+{
+    FILE *source = fopen(path, "rb");
+
+    if (source == NULL)
+        return errno == ENOENT;
+    int fine = read_bytes(source, most, file);
+    fclose(source);
+    return fine;
+}
+
+/* Whether the name is there: a mistyped one would be a delivery of no files, and accepted. */
+static int is_there(const char *directory)
+{
+    FILE *source = fopen(directory, "rb");
+
+    if (source != NULL)
+        fclose(source);
+    return source != NULL;
+}
+
+/* Reads the seven files; delivery[1] is CATALOGO. Answers the first that can't be read, or 0. */
+static size_t read_delivery(const char *directory, held delivery[FILES + 1])
+{
+    size_t length = strlen(directory) + sizeof "/CATALOGO";
+    char *path = malloc(length);
+    size_t trouble = 0;
+
+    for (size_t file = 1; file <= FILES && trouble == 0; file++) {
+        size_t most = CANOPYRAIL_RECORDS * canopyrail_length(file) + 1;
+        if (path == NULL || snprintf(path, length, "%s/%s", directory, names[file]) < 0 ||
+            !read_file(path, most, &delivery[file]))
+            trouble = file;
+    }
+    free(path);
+    return trouble;
+}
+
+/* The call takes up to CANOPYRAIL_STACK bytes of stack. A main thread has 8 MiB on most systems. */
+static uint64_t judge(const held d[FILES + 1])
+{
+    return canopyrail_judge(d[1].bytes, d[1].length, d[2].bytes, d[2].length, d[3].bytes,
+                            d[3].length, d[4].bytes, d[4].length, d[5].bytes, d[5].length,
+                            d[6].bytes, d[6].length, d[7].bytes, d[7].length);
+}
+
+static void print_line(uint64_t answer, const held delivery[FILES + 1])
+{
+    if (answer != CANOPYRAIL_FINE) {
+        printf("NO %02" PRIu64 " %" PRIu64 " %05" PRIu64 " %02" PRIu64 "\n",
+               canopyrail_reason(answer), canopyrail_file(answer), canopyrail_record(answer),
+               canopyrail_field(answer));
+        return;
+    }
+    printf("OK");
+    for (size_t file = 1; file <= FILES; file++)
+        printf(" %05zu", canopyrail_count(file, delivery[file].bytes, delivery[file].length));
+    printf("\n");
+}
+
+/* A text with every byte that isn't plain ASCII as \xNN. */
+static void print_text(const uint8_t *text, size_t length)
+{
+    printf("\"");
+    for (size_t i = 0; i < length; i++) {
+        if (text[i] >= 0x20 && text[i] <= 0x7E && text[i] != '\\')
+            printf("%c", text[i]);
+        else
+            printf("\\x%02X", (unsigned)text[i]);
+    }
+    printf("\"");
+}
+
+static void print_value(const canopyrail_values *values, size_t field, size_t form)
+{
+    size_t at = field - 1;
+
+    if (values->lengths[at] == 0)
+        printf("missing");
+    else if (form == NUMBER)
+        printf("%" PRIu64, values->numbers[at]);
+    else if (form == COORDINATE)
+        printf("%+" PRId64, values->coordinates[at]);
+    else
+        print_text(values->texts + at * CANOPYRAIL_TEXT, values->lengths[at]);
+}
+
+/* The values of the record that the break is in. A broken record may have none that can be read. */
+static void print_record(uint64_t answer, const held delivery[FILES + 1])
+{
+    size_t file = (size_t)canopyrail_file(answer);
+    size_t record = (size_t)canopyrail_record(answer);
+    const held *in = &delivery[file];
+    canopyrail_values values;
+    uint64_t refusal = canopyrail_read_values(file, in->bytes, in->length, record, &values);
+
+    if (refusal != CANOPYRAIL_FINE) {
+        printf("%s record %zu can't be read: reason %" PRIu64 " at field %" PRIu64 "\n",
+               names[file], record, canopyrail_reason(refusal), canopyrail_field(refusal));
+        return;
+    }
+    for (size_t field = 1; field <= canopyrail_fields(file); field++) {
+        size_t form = canopyrail_form(file, field);
+        /* A sign has no value of its own: its coordinate has it. */
+        if (form == SIGN)
+            continue;
+        printf("%s record %zu, field %zu: ", names[file], record, field);
+        print_value(&values, field, form);
+        printf("\n");
+    }
+}
+
+int main(int argc, char **argv)
+{
+    held delivery[FILES + 1] = {{NULL, 0}};
+    int status = FAILED;
+
+    if (argc != 2) {
+        fprintf(stderr, "usage: judge DIR\n");
+        return FAILED;
+    }
+    if (!is_there(argv[1])) {
+        fprintf(stderr, "judge: can't read %s\n", argv[1]);
+        return FAILED;
+    }
+    size_t trouble = read_delivery(argv[1], delivery);
+    if (trouble != 0) {
+        fprintf(stderr, "judge: can't read %s/%s\n", argv[1], names[trouble]);
+    } else {
+        uint64_t answer = judge(delivery);
+        print_line(answer, delivery);
+        if (answer != CANOPYRAIL_FINE)
+            print_record(answer, delivery);
+        status = answer == CANOPYRAIL_FINE ? ACCEPTED : REFUSED;
+    }
+    for (size_t file = 1; file <= FILES; file++)
+        free(delivery[file].bytes);
+    return status;
+}

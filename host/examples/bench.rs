@@ -1,0 +1,196 @@
+//! How long `judge` takes beside the independent checker, on the same deliveries in the same run, both built for release.
+//!
+//! `cargo run --release --example bench` prints the tables of docs/BENCHMARKS.md. Times are the least of several turns, taken by
+//! turns so that both meet the same state of the machine; a ratio below 1 says that the library is faster.
+
+use deliveries::{damage, full, lawful, write, Files, Random, Size, AIMS};
+use std::time::Instant;
+
+/// Keeps the compiler from seeing what becomes of a value.
+#[inline(never)]
+fn black_box<T>(value: T) -> T {
+    value
+}
+
+fn lent(files: &Files) -> [&[u8]; 7] {
+    [
+        &files[0], &files[1], &files[2], &files[3], &files[4], &files[5], &files[6],
+    ]
+}
+
+/// Milliseconds of one call.
+fn once<T>(work: impl FnOnce() -> T) -> f64 {
+    let start = Instant::now();
+    black_box(work());
+    start.elapsed().as_secs_f64() * 1000.0
+}
+
+/// The least of so many turns of both, by turns.
+fn both(files: &Files, turns: usize) -> (f64, f64) {
+    let mut least = (f64::MAX, f64::MAX);
+    for _ in 0..turns {
+        least.0 = least
+            .0
+            .min(once(|| canopyrail::judge(lent(black_box(files)))));
+        least.1 = least
+            .1
+            .min(once(|| independent::judge(lent(black_box(files)))));
+    }
+    least
+}
+
+fn lawful_deliveries() {
+    println!("judge, lawful deliveries of n records a file, milliseconds\n");
+    println!("| n | bytes in all | canopyrail | independent | ratio | to the n before |");
+    println!("|---|---|---|---|---|---|");
+    let mut before = None;
+    for n in [
+        8usize, 64, 128, 256, 512, 1_024, 2_048, 4_096, 8_192, 16_384,
+    ] {
+        let files = full(&mut Random::new(n as u64), n);
+        let bytes: usize = files.iter().map(Vec::len).sum();
+        let turns = (160_000 / n).clamp(9, 1_000);
+        let (ours, theirs) = both(&files, turns);
+        let growth = match before {
+            Some(time) if n > 64 => format!("{:.2}", ours / time),
+            _ => String::from("-"),
+        };
+        println!(
+            "| {n} | {bytes} | {ours:.3} | {theirs:.3} | {:.2} | {growth} |",
+            ours / theirs
+        );
+        before = Some(ours);
+    }
+    println!();
+}
+
+/// Every aim on a delivery of full size: how much longer than the lawful one does a damaged one take?
+fn damaged_deliveries(n: usize) {
+    let files = full(&mut Random::new(n as u64), n);
+    let (lawful_time, _) = both(&files, 5);
+    println!(
+        "judge, damaged deliveries of {n} records a file; the lawful one takes {lawful_time:.2} ms\n"
+    );
+    let mut rows = Vec::new();
+    for aim in AIMS.iter().filter(|aim| !aim.is_big()) {
+        let mut random = Random::new(3);
+        let mut model = lawful(&mut random, Size::Exact(n));
+        let mut files = write(&model);
+        damage(&mut random, &mut model, &mut files, *aim);
+        let (ours, theirs) = both(&files, 1);
+        let line = canopyrail::line(&canopyrail::judge(lent(&files)));
+        rows.push((
+            ours / lawful_time,
+            ours,
+            theirs,
+            aim.to_string(),
+            line.trim_end().to_string(),
+        ));
+    }
+    rows.sort_by(|a, b| b.0.partial_cmp(&a.0).unwrap());
+    println!("| damage | line | canopyrail | independent | to the lawful one |");
+    println!("|---|---|---|---|---|");
+    for (ratio, ours, theirs, aim, line) in rows.iter().take(12) {
+        println!("| {aim} | `{line}` | {ours:.2} | {theirs:.2} | {ratio:.2} |");
+    }
+    println!(
+        "\nthe other {} take at most {:.2} times the lawful one's time\n",
+        rows.len() - 12,
+        rows[12].0
+    );
+}
+
+/// The worst that keys can be: all alike from the end on, so that the nested scan goes furthest.
+fn repeated_keys(n: usize) {
+    println!("judge, one key repeated at the far end of a file of {n} records, milliseconds\n");
+    println!("| file | line | canopyrail | independent |");
+    println!("|---|---|---|---|");
+    for file in 0..7 {
+        let mut files = full(&mut Random::new(n as u64), n);
+        let length = files[file].len() / n;
+        let key = if file == 0 {
+            7
+        } else if file == 5 {
+            16
+        } else {
+            10
+        };
+        // the last record takes the key of the one before it
+        let from = (n - 2) * length;
+        let to = (n - 1) * length;
+        let bytes = files[file][from..from + key].to_vec();
+        files[file][to..to + key].copy_from_slice(&bytes);
+        let (ours, theirs) = both(&files, 3);
+        let line = canopyrail::line(&canopyrail::judge(lent(&files)));
+        println!(
+            "| {} | `{}` | {ours:.2} | {theirs:.2} |",
+            independent::NAMES[file],
+            line.trim_end()
+        );
+    }
+    println!();
+}
+
+/// One record read and written, nanoseconds.
+fn one_record() {
+    let files = full(&mut Random::new(1), 64);
+    println!("one record, nanoseconds (64 records by turns, 200 times)\n");
+    println!("| file | read | read, independent | write | write, independent |");
+    println!("|---|---|---|---|---|");
+    for (at, bytes) in files.iter().enumerate() {
+        let file = at + 1;
+        let each = |work: &mut dyn FnMut(usize)| {
+            let mut least = f64::MAX;
+            for _ in 0..20 {
+                let time = once(|| {
+                    for _ in 0..10 {
+                        for record in 1..=64 {
+                            work(record);
+                        }
+                    }
+                });
+                least = least.min(time);
+            }
+            least * 1e6 / 640.0
+        };
+        let read = each(&mut |record| {
+            black_box(canopyrail::read(file, black_box(bytes), record)).unwrap();
+        });
+        let read_there = each(&mut |record| {
+            black_box(independent::read(file, black_box(bytes), record)).unwrap();
+        });
+        let ours: Vec<_> = (1..=64)
+            .map(|record| canopyrail::read(file, bytes, record).unwrap())
+            .collect();
+        let theirs: Vec<_> = (1..=64)
+            .map(|record| independent::read(file, bytes, record).unwrap())
+            .collect();
+        let mut room = [0u8; 200];
+        let write = each(&mut |record| {
+            black_box(canopyrail::write(file, &ours[record - 1], &mut room)).unwrap();
+        });
+        let write_there = each(&mut |record| {
+            black_box(independent::write(file, &theirs[record - 1], &mut room)).unwrap();
+        });
+        println!(
+            "| {} | {read:.0} | {read_there:.0} | {write:.0} | {write_there:.0} |",
+            independent::NAMES[at]
+        );
+    }
+    println!();
+}
+
+fn main() {
+    let work = || {
+        lawful_deliveries();
+        damaged_deliveries(16_384);
+        repeated_keys(16_384);
+        one_record();
+    };
+    std::thread::Builder::new()
+        .stack_size(4 * canopyrail::STACK)
+        .spawn(work)
+        .unwrap()
+        .join()
+        .unwrap();
+}

@@ -1,0 +1,65 @@
+//! References: reasons 40 and 41.
+
+use std::collections::HashSet;
+
+use crate::delivery::{Delivery, Tramo};
+use crate::keys::Keys;
+use crate::record::Code;
+use crate::topology::Lines;
+use crate::verdict::{ensure, Break};
+
+/// Reads every reference in the order of file, record and field, so that the
+/// first break met is the first there is.
+pub(crate) fn check(delivery: &Delivery, keys: &Keys, lines: &Lines) -> Result<(), Break> {
+    for (i, point) in delivery.points.iter().enumerate() {
+        ensure(point.composite.is_none(), 40, (2, i, 2))?;
+        let known = point.node.map_or(true, |id| keys.nodes.contains_key(&id));
+        ensure(known, 40, (2, i, 3))?;
+        check_code(delivery, keys, &point.code, b'P', (2, i, 4))?;
+    }
+    for (i, label) in delivery.labels.iter().enumerate() {
+        ensure(label.composite.is_none(), 40, (3, i, 2))?;
+        check_code(delivery, keys, &label.code, b'X', (3, i, 3))?;
+    }
+    for (i, linear) in delivery.linears.iter().enumerate() {
+        ensure(linear.composite.is_none(), 40, (4, i, 2))?;
+        check_code(delivery, keys, &linear.code, b'L', (4, i, 3))?;
+    }
+    for (i, tramo) in delivery.tramos.iter().enumerate() {
+        check_tramo(delivery, keys, lines, i, tramo)?;
+    }
+    let used: HashSet<u64> = delivery.tramos.iter().map(|t| t.line).collect();
+    for (i, vertex) in delivery.vertices.iter().enumerate() {
+        ensure(used.contains(&vertex.line), 40, (6, i, 1))?;
+    }
+    Ok(())
+}
+
+fn check_tramo(
+    delivery: &Delivery,
+    keys: &Keys,
+    lines: &Lines,
+    i: usize,
+    tramo: &Tramo,
+) -> Result<(), Break> {
+    ensure(keys.linears.contains_key(&tramo.linear), 40, (5, i, 2))?;
+    ensure(tramo.perimeter.is_none(), 40, (5, i, 3))?;
+    ensure(lines.contains_key(&tramo.line), 40, (5, i, 4))?;
+    check_code(delivery, keys, &tramo.code, b'T', (5, i, 5))?;
+    ensure(keys.nodes.contains_key(&tramo.start), 40, (5, i, 6))?;
+    ensure(keys.nodes.contains_key(&tramo.end), 40, (5, i, 7))
+}
+
+/// A code has to be catalogued, and under the type of the file that uses it.
+fn check_code(
+    delivery: &Delivery,
+    keys: &Keys,
+    code: &Code,
+    tipo: u8,
+    place: (usize, usize, usize),
+) -> Result<(), Break> {
+    match keys.codes.get(code) {
+        None => ensure(false, 40, place),
+        Some(&entry) => ensure(delivery.entries[entry].tipo == tipo, 41, place),
+    }
+}

@@ -1,0 +1,147 @@
+//! Lines, nodes and what stands on them: reasons 50 to 59.
+
+use std::collections::{HashMap, HashSet};
+
+use crate::delivery::{Delivery, Node, Vertex};
+use crate::keys::Keys;
+use crate::verdict::{ensure, Break};
+
+/// The vertex of highest order of each line that has a vertex, by its place
+/// in the file counted from 0.
+pub(crate) type Lines = HashMap<u64, usize>;
+
+pub(crate) fn lines(vertices: &[Vertex]) -> Lines {
+    let mut highest = Lines::new();
+    for (i, vertex) in vertices.iter().enumerate() {
+        let best = highest.entry(vertex.line).or_insert(i);
+        if vertices[*best].order < vertex.order {
+            *best = i;
+        }
+    }
+    highest
+}
+
+/// Reads the files in their order, so that the first break met is the first
+/// there is. All rules are read of the same delivery, broken orders or not.
+pub(crate) fn check(delivery: &Delivery, keys: &Keys, lines: &Lines) -> Result<(), Break> {
+    check_points(delivery, keys)?;
+    check_linears(delivery)?;
+    check_tramos(delivery, keys, lines)?;
+    check_orders(delivery, keys)?;
+    check_nodes(delivery)
+}
+
+fn check_points(delivery: &Delivery, keys: &Keys) -> Result<(), Break> {
+    for (i, point) in delivery.points.iter().enumerate() {
+        if let Some(node) = point.node.and_then(|id| node_of(delivery, keys, id)) {
+            let together = (point.x, point.y) == (node.x, node.y);
+            ensure(together, 55, (2, i, 3))?;
+        }
+    }
+    Ok(())
+}
+
+fn check_linears(delivery: &Delivery) -> Result<(), Break> {
+    let named: HashSet<u64> = delivery.tramos.iter().map(|t| t.linear).collect();
+    for (i, linear) in delivery.linears.iter().enumerate() {
+        ensure(named.contains(&linear.id), 57, (4, i, 0))?;
+    }
+    Ok(())
+}
+
+/// The sense of a tramo isn't asked for: the start node is held against order
+/// 1 and the end node against the highest order, whatever it is.
+fn check_tramos(delivery: &Delivery, keys: &Keys, lines: &Lines) -> Result<(), Break> {
+    let vertex = |place: &usize| &delivery.vertices[*place];
+    for (i, tramo) in delivery.tramos.iter().enumerate() {
+        let first = keys.vertices.get(&(tramo.line, 1)).map(vertex);
+        let last = lines.get(&tramo.line).map(vertex);
+        ensure(last.is_some(), 59, (5, i, 4))?;
+        let start = node_of(delivery, keys, tramo.start);
+        ensure(meets(first, start), 52, (5, i, 6))?;
+        let end = node_of(delivery, keys, tramo.end);
+        ensure(meets(last, end), 53, (5, i, 7))?;
+    }
+    Ok(())
+}
+
+/// Whether they stand at one X and Y; where either isn't there, nothing is
+/// held against the other.
+fn meets(vertex: Option<&Vertex>, node: Option<&Node>) -> bool {
+    match (vertex, node) {
+        (Some(vertex), Some(node)) => (vertex.x, vertex.y) == (node.x, node.y),
+        _ => true,
+    }
+}
+
+fn check_orders(delivery: &Delivery, keys: &Keys) -> Result<(), Break> {
+    let has = |line: u64, order: u64| keys.vertices.contains_key(&(line, order));
+    for (i, vertex) in delivery.vertices.iter().enumerate() {
+        match vertex.order {
+            0 => ensure(false, 50, (6, i, 2))?,
+            1 => ensure(has(vertex.line, 2), 51, (6, i, 2))?,
+            order => ensure(has(vertex.line, order - 1), 50, (6, i, 2))?,
+        }
+    }
+    Ok(())
+}
+
+fn check_nodes(delivery: &Delivery) -> Result<(), Break> {
+    let ends = delivery.tramos.iter().flat_map(|t| [t.start, t.end]);
+    let named = delivery.points.iter().filter_map(|p| p.node);
+    let wanted: HashSet<u64> = ends.chain(named).collect();
+    let vertices: HashSet<(i64, i64)> = delivery.vertices.iter().map(|v| (v.x, v.y)).collect();
+    let mut taken = HashSet::with_capacity(delivery.nodes.len());
+    for (i, node) in delivery.nodes.iter().enumerate() {
+        ensure(taken.insert((node.x, node.y, node.z)), 54, (7, i, 0))?;
+        let has_use = wanted.contains(&node.id) || vertices.contains(&(node.x, node.y));
+        ensure(has_use, 56, (7, i, 0))?;
+    }
+    Ok(())
+}
+
+fn node_of<'a>(delivery: &'a Delivery, keys: &Keys, id: u64) -> Option<&'a Node> {
+    keys.nodes.get(&id).map(|&place| &delivery.nodes[place])
+}
+
+#[cfg(test)]
+mod tests {
+    use super::*;
+    use crate::delivery::Tramo;
+
+    /// Reason 59 never comes first in a verdict, since reason 40 goes before
+    /// it; so it is asked here, with the references left unread.
+    #[test]
+    fn tramo_of_a_line_without_vertices_is_59() {
+        let tramo = Tramo {
+            id: 1,
+            linear: 1,
+            perimeter: None,
+            line: 1,
+            code: *b"0100001",
+            start: 1,
+            end: 1,
+        };
+        let delivery = Delivery {
+            entries: Vec::new(),
+            points: Vec::new(),
+            labels: Vec::new(),
+            linears: Vec::new(),
+            tramos: vec![tramo],
+            vertices: Vec::new(),
+            nodes: Vec::new(),
+        };
+        let keys = match Keys::gather(&delivery) {
+            Ok(keys) => keys,
+            Err(b) => panic!("{:?}", b),
+        };
+        let found = check(&delivery, &keys, &lines(&delivery.vertices));
+        let expected = Break {
+            reason: 59,
+            file: 5,
+            record: 1,
+            field: 4,
+        };
+        assert_eq!(found, Err(expected));
+    }
+}

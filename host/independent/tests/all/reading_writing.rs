@@ -1,0 +1,465 @@
+//! Single records: reading, writing and both in turn.
+
+use crate::build::{after, rich, set, small, Noise};
+use independent::{
+    field_name, fields, form, read, width, write, Form, Refusal, Value, LENGTHS, NAMES,
+};
+use Value::{Coordinate, Missing, Number, Text};
+
+fn text(bytes: &[u8]) -> Value {
+    Text(bytes.to_vec())
+}
+
+fn refusal<T>(reason: u8, field: usize) -> Result<T, Refusal> {
+    Err(Refusal { reason, field })
+}
+
+/// The reason and field of a refused writing, which must leave the room be.
+fn refused(file: usize, values: &[Value]) -> (u8, usize) {
+    let mut room = [0x5A; 200];
+    let found = write(file, values, &mut room);
+    assert!(room.iter().all(|&b| b == 0x5A));
+    match found {
+        Err(Refusal { reason, field }) => (reason, field),
+        Ok(_) => panic!("not refused"),
+    }
+}
+
+fn written(file: usize, values: &[Value]) -> Vec<u8> {
+    let mut room = [0x5A; 200];
+    let length = write(file, values, &mut room).unwrap();
+    assert_eq!(length, LENGTHS[file - 1]);
+    assert!(room[length..].iter().all(|&b| b == 0x5A));
+    room[..length].to_vec()
+}
+
+fn a_node() -> Vec<Value> {
+    vec![
+        Number(1),
+        Missing,
+        Missing,
+        Coordinate(100),
+        Missing,
+        Coordinate(200),
+        Missing,
+        Missing,
+    ]
+}
+
+fn a_linear() -> Vec<Value> {
+    let mut values = vec![Missing; 10];
+    values[0] = Number(1);
+    values[2] = text(b"0100000");
+    values
+}
+
+fn a_tramo() -> Vec<Value> {
+    vec![
+        Number(1),
+        Number(1),
+        Missing,
+        Missing,
+        text(b"0100001"),
+        Number(1),
+        Number(2),
+        Missing,
+    ]
+}
+
+fn an_entry() -> Vec<Value> {
+    vec![text(b"0100000"), text(b"L"), Missing, Missing]
+}
+
+#[test]
+fn the_fields_are_those_of_the_table() {
+    let counts = [4, 13, 14, 10, 8, 8, 8];
+    for file in 1..=7 {
+        assert_eq!(fields(file), counts[file - 1]);
+        for field in 1..=fields(file) {
+            assert_eq!(
+                width(file, field),
+                crate::build::WIDTHS[file - 1][field - 1]
+            );
+            assert!(!field_name(file, field).is_empty());
+        }
+        assert!(!NAMES[file - 1].is_empty());
+    }
+    assert_eq!(form(1, 1), Form::Code);
+    assert_eq!(form(1, 2), Form::Tipo);
+    assert_eq!(form(7, 2), Form::Text);
+}
+
+#[test]
+fn reading_gives_a_value_for_each_field() {
+    let files = rich();
+    let point = vec![
+        Number(0),
+        Missing,
+        Number(3),
+        text(b"0200000"),
+        text(b"Pozo viejo"),
+        Number(35_959),
+        Number(1),
+        Missing,
+        Coordinate(-7),
+        Missing,
+        Coordinate(0),
+        Missing,
+        Coordinate(-3),
+    ];
+    assert_eq!(read(2, &files[1], 1), Ok(point));
+    assert_eq!(read(7, &files[6], 1), Ok(a_node()));
+    let far = read(2, &files[1], 2).unwrap();
+    assert_eq!(far[8], Coordinate(999_999_999));
+    assert_eq!(far[10], Coordinate(-9_999_999_999));
+    assert_eq!(far[12], Missing);
+}
+
+#[test]
+fn reading_asks_for_file_then_record_then_fields() {
+    let files = small();
+    for file in [0, 8, usize::MAX] {
+        assert_eq!(read(file, &files[6], 0), refusal(60, 0));
+    }
+    for record in [0, 3, usize::MAX] {
+        assert_eq!(read(7, &files[6], record), refusal(66, 0));
+    }
+    assert_eq!(read(7, &[], 1), refusal(66, 0));
+    assert_eq!(read(7, &files[6][..49], 1), refusal(66, 0));
+}
+
+#[test]
+fn a_ragged_tail_is_no_record() {
+    let mut files = small();
+    files[6].push(b'0');
+    assert_eq!(read(7, &files[6], 1), Ok(a_node()));
+    assert!(read(7, &files[6], 2).is_ok());
+    assert_eq!(read(7, &files[6], 3), refusal(66, 0));
+}
+
+#[test]
+fn reading_does_not_ask_for_the_most_records() {
+    let one = small()[6][..50].to_vec();
+    let many = one.repeat(16_386);
+    assert_eq!(read(7, &many, 16_386), Ok(a_node()));
+}
+
+#[test]
+fn reading_tells_the_first_by_field_and_reason() {
+    let mut files = small();
+    set(&mut files, 7, 1, 8, b"x");
+    set(&mut files, 7, 1, 6, b"");
+    assert_eq!(read(7, &files[6], 1), refusal(24, 6));
+    files[6][after(7, 1, 6)] = b'!';
+    assert_eq!(read(7, &files[6], 1), refusal(21, 6));
+    set(&mut files, 7, 1, 3, b"x");
+    assert_eq!(read(7, &files[6], 1), refusal(25, 3));
+    files[6][49] = b'\r';
+    assert_eq!(read(7, &files[6], 1), refusal(20, 0));
+    // The other record is untouched.
+    assert!(read(7, &files[6], 2).is_ok());
+}
+
+#[test]
+fn every_record_is_written_back_as_it_was() {
+    let files = rich();
+    for file in 1..=7 {
+        for (i, record) in files[file - 1].chunks(LENGTHS[file - 1]).enumerate() {
+            let values = read(file, &files[file - 1], i + 1).unwrap();
+            assert_eq!(values.len(), fields(file));
+            assert_eq!(written(file, &values), record, "{file} {}", i + 1);
+        }
+    }
+}
+
+#[test]
+fn writing_asks_for_file_then_room_then_values() {
+    let mut room = [7; 49];
+    for file in [0, 8, usize::MAX] {
+        assert_eq!(write(file, &[], &mut room), refusal(60, 0));
+        assert_eq!(write(file, &[], &mut []), refusal(60, 0));
+    }
+    assert_eq!(write(7, &a_node(), &mut room), refusal(61, 0));
+    assert_eq!(write(7, &[], &mut room), refusal(61, 0));
+    assert_eq!(room, [7; 49]);
+    let mut room = [7; 50];
+    assert_eq!(write(7, &[], &mut room), refusal(64, 1));
+    assert_eq!(room, [7; 50]);
+    assert_eq!(write(7, &a_node(), &mut room), Ok(50));
+}
+
+#[test]
+fn numbers_fit_their_digits() {
+    let mut values = a_tramo();
+    values[3] = Number(9_999_999_999);
+    written(5, &values);
+    values[3] = Number(10_000_000_000);
+    assert_eq!(refused(5, &values), (62, 4));
+    values[3] = Number(u64::MAX);
+    assert_eq!(refused(5, &values), (62, 4));
+    values[0] = Missing;
+    assert_eq!(refused(5, &values), (64, 1));
+}
+
+#[test]
+fn coordinates_fit_their_digits_at_the_number() {
+    for (field, most) in [(4, 999_999_999), (6, 9_999_999_999), (8, 99_999_999)] {
+        for value in [most, -most] {
+            let mut values = a_node();
+            values[field - 1] = Coordinate(value);
+            assert_eq!(read(7, &written(7, &values), 1), Ok(values));
+        }
+        for value in [most + 1, -most - 1, i64::MAX, i64::MIN] {
+            let mut values = a_node();
+            values[field - 1] = Coordinate(value);
+            assert_eq!(refused(7, &values), (62, field));
+        }
+    }
+}
+
+#[test]
+fn a_missing_coordinate_is_told_at_its_sign() {
+    for field in [4, 6] {
+        let mut values = a_node();
+        values[field - 1] = Missing;
+        assert_eq!(refused(7, &values), (64, field - 1));
+    }
+    // A Y that lacks stands at field 5, after the X that is too wide.
+    let mut values = a_node();
+    values[3] = Coordinate(1_000_000_000);
+    values[5] = Missing;
+    assert_eq!(refused(7, &values), (62, 4));
+}
+
+#[test]
+fn zero_is_written_with_plus() {
+    let mut values = a_node();
+    values[3] = Coordinate(0);
+    values[7] = Coordinate(0);
+    let expected: &[u8] = b"0000000001| |+|000000000|+|0000000200|+|00000000\r\n";
+    assert_eq!(written(7, &values), expected);
+}
+
+#[test]
+fn a_centroid_has_x_and_y_or_nothing() {
+    written(4, &a_linear());
+    for (present, expected) in [
+        (&[6][..], Some((64, 7))),
+        (&[8], Some((64, 5))),
+        (&[10], Some((64, 5))),
+        (&[6, 10], Some((64, 7))),
+        (&[8, 10], Some((64, 5))),
+        (&[6, 8], None),
+        (&[6, 8, 10], None),
+    ] {
+        let mut values = a_linear();
+        for &field in present {
+            values[field - 1] = Coordinate(-1);
+        }
+        match expected {
+            Some(found) => assert_eq!(refused(4, &values), found),
+            None => assert_eq!(read(4, &written(4, &values), 1), Ok(values)),
+        }
+    }
+    // A value that is too wide isn't missing for its partners.
+    let mut values = a_linear();
+    values[7] = Coordinate(i64::MIN);
+    assert_eq!(refused(4, &values), (64, 5));
+    values[5] = Coordinate(1);
+    assert_eq!(refused(4, &values), (62, 8));
+}
+
+#[test]
+fn texts_are_63() {
+    for bad in [
+        &b" x"[..],
+        b"x ",
+        b" ",
+        b"   ",
+        b"x\x1Fx",
+        b"\x7F",
+        b"\x80",
+        b"\x9F",
+        &[b'x'; 61],
+    ] {
+        let mut values = a_linear();
+        values[3] = text(bad);
+        assert_eq!(refused(4, &values), (63, 4));
+    }
+    for good in [&b"a|b"[..], b"\xA0", b"\xFF", b"x  x", b"NA", &[b'~'; 60]] {
+        let mut values = a_linear();
+        values[3] = text(good);
+        assert_eq!(read(4, &written(4, &values), 1), Ok(values));
+    }
+}
+
+#[test]
+fn codes_on_writing() {
+    for missing in [&b""[..], b"NA", b"ND"] {
+        let mut values = an_entry();
+        values[0] = text(missing);
+        assert_eq!(refused(1, &values), (64, 1));
+        let mut values = a_tramo();
+        values[4] = text(missing);
+        assert_eq!(refused(5, &values), (64, 5));
+    }
+    for bad in [&b"NA "[..], b" NA", b" ", b"12345678"] {
+        let mut values = an_entry();
+        values[0] = text(bad);
+        assert_eq!(refused(1, &values), (63, 1));
+    }
+    let mut values = an_entry();
+    values[0] = text(b"NAD");
+    written(1, &values);
+}
+
+#[test]
+fn domains_are_65() {
+    for (bytes, found) in [
+        (&b"C"[..], (65, 2)),
+        (b"p", (65, 2)),
+        (b"\xA0", (65, 2)),
+        (b"", (64, 2)),
+        (b"PP", (63, 2)),
+        (b" ", (63, 2)),
+        (b"\x00", (63, 2)),
+    ] {
+        let mut values = an_entry();
+        values[1] = text(bytes);
+        assert_eq!(refused(1, &values), found);
+    }
+    for (bytes, found) in [
+        (&b"x"[..], (65, 8)),
+        (b"+-", (63, 8)),
+        (b" ", (63, 8)),
+        (b"\x80", (63, 8)),
+    ] {
+        let mut values = a_tramo();
+        values[7] = text(bytes);
+        assert_eq!(refused(5, &values), found);
+    }
+    for bytes in [&b"+"[..], b"-", b""] {
+        let mut values = a_tramo();
+        values[7] = text(bytes);
+        written(5, &values);
+    }
+    let mut values = a_node();
+    values[1] = text(b"\xA0");
+    assert_eq!(written(7, &values)[11], 0xA0);
+    values[1] = text(b"AB");
+    assert_eq!(refused(7, &values), (63, 2));
+}
+
+#[test]
+fn r15_what_says_the_same_is_written_alike() {
+    let plain = written(7, &a_node());
+    // An empty text, a wrong variant, a value that is past the end and
+    // whatever stands at a sign's field all say nothing.
+    let mut values = a_node();
+    values[1] = text(b"");
+    values[2] = text(b"-");
+    values[4] = Coordinate(i64::MIN);
+    values[6] = Number(u64::MAX);
+    values[7] = Number(3);
+    values.push(text(b"\x00"));
+    assert_eq!(written(7, &values), plain);
+    assert_eq!(written(7, &a_node()[..6]), plain);
+    let mut values = a_node();
+    values[0] = Coordinate(1);
+    assert_eq!(refused(7, &values), (64, 1));
+    let mut values = a_node();
+    values[3] = Number(100);
+    assert_eq!(refused(7, &values), (64, 3));
+}
+
+#[test]
+fn a_refused_value_is_told_by_field_first() {
+    let values = vec![
+        Number(u64::MAX),
+        text(b" "),
+        Missing,
+        Coordinate(i64::MIN),
+        Missing,
+        Missing,
+    ];
+    assert_eq!(refused(7, &values), (62, 1));
+    let mut values = values;
+    values[0] = Number(0);
+    assert_eq!(refused(7, &values), (63, 2));
+    values[1] = Missing;
+    assert_eq!(refused(7, &values), (62, 4));
+    values[3] = Missing;
+    assert_eq!(refused(7, &values), (64, 3));
+    values[3] = Coordinate(0);
+    assert_eq!(refused(7, &values), (64, 5));
+}
+
+fn random_text(noise: &mut Noise, most: usize) -> Value {
+    let length = noise.below(most + 2);
+    let words: &[u8] = b"AZaz09|+- NAD\xA0\xF1\x00\x7F";
+    Text(
+        (0..length)
+            .map(|_| words[noise.below(words.len())])
+            .collect(),
+    )
+}
+
+fn random_value(noise: &mut Noise, file: usize, field: usize) -> Value {
+    let digits = 10_i64.pow(width(file, field).min(18) as u32);
+    match (form(file, field), noise.below(12)) {
+        (_, 0) => Missing,
+        (_, 1) => Number(noise.next()),
+        (Form::Sign, _) => Missing,
+        (Form::Number, 2) => Number(digits as u64),
+        (Form::Number, _) => Number(noise.next() % digits as u64),
+        (Form::Size, 2) => Coordinate(-digits),
+        (Form::Size, _) => Coordinate((noise.next() >> 1) as i64 % (2 * digits) - digits),
+        (Form::Tipo, _) => text(&[b"PXLTC"[noise.below(5)]]),
+        (Form::Sense, _) => text(&[b"+-x"[noise.below(3)]]),
+        (Form::Code, _) => random_text(noise, 7),
+        (Form::Text, _) => random_text(noise, width(file, field)),
+    }
+}
+
+/// The values with every way of saying nothing made one, where `read` gives
+/// the variants that the fields have.
+fn plain(file: usize, values: &[Value]) -> Vec<Value> {
+    let keep = |field: usize| match (form(file, field), values.get(field - 1)) {
+        (Form::Number, Some(Number(n))) => Number(*n),
+        (Form::Size, Some(Coordinate(c))) => Coordinate(*c),
+        (Form::Text | Form::Code | Form::Tipo | Form::Sense, Some(Text(t))) if !t.is_empty() => {
+            Text(t.clone())
+        }
+        _ => Missing,
+    };
+    (1..=fields(file)).map(keep).collect()
+}
+
+#[test]
+fn what_is_written_reads_back_the_same() {
+    let mut noise = Noise(0x5EED);
+    let mut told = [0_usize; 66];
+    for _ in 0..40_000 {
+        let file = 1 + noise.below(7);
+        let given = fields(file) + 1 - noise.below(2);
+        let values: Vec<Value> = (1..=given)
+            .map(|field| random_value(&mut noise, file, field))
+            .collect();
+        let mut room = [0x5A; 160];
+        match write(file, &values, &mut room) {
+            Ok(length) => {
+                told[0] += 1;
+                assert_eq!(read(file, &room[..length], 1), Ok(plain(file, &values)));
+                assert!(room[length..].iter().all(|&b| b == 0x5A));
+            }
+            Err(found) => {
+                told[usize::from(found.reason)] += 1;
+                assert!(found.field >= 1 && found.field <= fields(file));
+                assert!(room.iter().all(|&b| b == 0x5A));
+            }
+        }
+    }
+    for reason in [0, 62, 63, 64, 65] {
+        assert!(told[reason] > 100, "{reason}: {}", told[reason]);
+    }
+}

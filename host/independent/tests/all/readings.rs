@@ -1,0 +1,628 @@
+//! The readings of document 01, one small test for each that can be seen.
+
+use crate::build::{add, after, lent, node, place, rich, said, set, small, vertex, Files};
+use independent::{judge, program_line, read, Break, Refusal, Value, Verdict, LENGTHS};
+
+const S_OK: &str = "OK 00002 00000 00000 00001 00001 00002 00002";
+const RICH_OK: &str = "OK 00005 00002 00001 00002 00003 00005 00005";
+
+/// What is said of S after a change.
+fn of_small(change: impl Fn(&mut Files)) -> String {
+    let mut files = small();
+    change(&mut files);
+    said(&files)
+}
+
+fn of_rich(change: impl Fn(&mut Files)) -> String {
+    let mut files = rich();
+    change(&mut files);
+    said(&files)
+}
+
+#[test]
+fn the_rich_delivery_is_lawful() {
+    assert_eq!(said(&rich()), RICH_OK);
+}
+
+#[test]
+fn r01_the_sense_turns_nothing_round() {
+    for sense in [b"+", b"-", b" "] {
+        assert_eq!(of_small(|f| set(f, 5, 1, 8, sense)), S_OK);
+        let turned = of_small(|f| {
+            set(f, 5, 1, 6, b"0000000002");
+            set(f, 5, 1, 7, b"0000000001");
+            set(f, 5, 1, 8, sense);
+        });
+        assert_eq!(turned, "NO 52 5 00001 06");
+    }
+}
+
+#[test]
+fn r02_bars_are_21_and_the_line_end_is_20() {
+    for field in 1..=7 {
+        let said = of_small(|f| f[6][after(7, 2, field)] = b'7');
+        assert_eq!(said, format!("NO 21 7 00002 {field:02}"));
+    }
+    for end in [b"\r\r", b"\n\n", b"\n\r", b"|\n", b"  "] {
+        let said = of_small(|f| f[6][48..50].copy_from_slice(end));
+        assert_eq!(said, "NO 20 7 00001 00");
+    }
+}
+
+#[test]
+fn r03_a_missing_bar_stands_beside_the_fields_own_break() {
+    let both = |f: &mut Files| {
+        f[6][after(7, 1, 4)] = b' ';
+        set(f, 7, 1, 4, b"00000010x");
+    };
+    assert_eq!(of_small(both), "NO 21 7 00001 04");
+    let field_only = of_small(|f| {
+        both(f);
+        f[6][after(7, 1, 4)] = b'|';
+    });
+    assert_eq!(field_only, "NO 22 7 00001 04");
+    let earlier_field = of_small(|f| {
+        both(f);
+        set(f, 7, 1, 3, b"*");
+    });
+    assert_eq!(earlier_field, "NO 25 7 00001 03");
+}
+
+#[test]
+fn r04_missing_is_told_at_each_field() {
+    let both = |f: &mut Files| {
+        set(f, 7, 1, 3, b"");
+        set(f, 7, 1, 4, b"");
+    };
+    assert_eq!(of_small(both), "NO 24 7 00001 03");
+    let number = of_small(|f| set(f, 7, 1, 4, b""));
+    assert_eq!(number, "NO 24 7 00001 04");
+}
+
+#[test]
+fn r04_each_field_that_may_not_be_missing() {
+    let needed: [(usize, &[usize]); 7] = [
+        (1, &[1, 2]),
+        (2, &[1, 4, 8, 9, 10, 11]),
+        (3, &[1, 3, 5, 8, 9, 10, 11, 12]),
+        (4, &[1, 3]),
+        (5, &[1, 2, 5, 6, 7]),
+        (6, &[1, 2, 3, 4, 5, 6]),
+        (7, &[1, 3, 4, 5, 6]),
+    ];
+    for (file, fields) in needed {
+        for field in 1..=crate::build::WIDTHS[file - 1].len() {
+            let mut files = rich();
+            set(&mut files, file, 1, field, b"");
+            let length = LENGTHS[file - 1];
+            let found = read(file, &files[file - 1][..length], 1);
+            // The Z of the first point and the first text is there, so each
+            // of its two fields is demanded by the other.
+            let partner = (file == 2 && field > 11) || (file == 3 && field > 12);
+            if fields.contains(&field) || partner {
+                assert_eq!(found, Err(Refusal { reason: 24, field }), "{file}");
+            } else {
+                assert!(found.is_ok(), "{file} {field}");
+            }
+        }
+    }
+}
+
+#[test]
+fn r05_damaged_counts_as_present() {
+    let blank_sign = |f: &mut Files| {
+        set(f, 7, 1, 7, b"");
+        set(f, 7, 1, 8, b"1x");
+    };
+    assert_eq!(of_small(blank_sign), "NO 24 7 00001 07");
+    let signed = of_small(|f| {
+        blank_sign(f);
+        set(f, 7, 1, 7, b"+");
+    });
+    assert_eq!(signed, "NO 22 7 00001 08");
+    let damaged_sign = of_small(|f| set(f, 7, 1, 7, b"\x7F"));
+    assert_eq!(damaged_sign, "NO 23 7 00001 07");
+}
+
+#[test]
+fn r05_a_sign_and_its_number_stand_together() {
+    let sign_alone = of_small(|f| set(f, 7, 1, 7, b"+"));
+    assert_eq!(sign_alone, "NO 24 7 00001 08");
+    let number_alone = of_small(|f| set(f, 7, 1, 8, b"00000001"));
+    assert_eq!(number_alone, "NO 24 7 00001 07");
+}
+
+#[test]
+fn r05_any_centroid_field_demands_x_and_y_with_signs() {
+    let all: [(usize, &[u8]); 6] = [
+        (5, b"+"),
+        (6, b"000000001"),
+        (7, b"-"),
+        (8, b"0000000001"),
+        (9, b"+"),
+        (10, b"00000001"),
+    ];
+    for present in 0..64 {
+        let mut files = small();
+        let has = |i: usize| present >> i & 1 == 1;
+        for (i, (field, bytes)) in all.iter().enumerate() {
+            if has(i) {
+                set(&mut files, 4, 1, *field, bytes);
+            }
+        }
+        let lacks = |i: usize| {
+            let demanded = i < 4 || has(i ^ 1);
+            present != 0 && !has(i) && demanded
+        };
+        let expected = match (0..6).find(|&i| lacks(i)) {
+            None => S_OK.to_string(),
+            Some(i) => format!("NO 24 4 00001 {:02}", i + 5),
+        };
+        assert_eq!(said(&files), expected);
+    }
+    let damaged = of_small(|f| set(f, 4, 1, 10, b"x"));
+    assert_eq!(damaged, "NO 24 4 00001 05");
+}
+
+#[test]
+fn r06_minus_before_zero() {
+    let before = |number: &'static [u8]| {
+        of_small(|f| {
+            set(f, 7, 1, 7, b"-");
+            set(f, 7, 1, 8, number);
+        })
+    };
+    assert_eq!(before(b"00000000"), "NO 25 7 00001 07");
+    assert_eq!(before(b""), "NO 24 7 00001 08");
+    assert_eq!(before(b"0000000 "), "NO 22 7 00001 08");
+    assert_eq!(before(b"00000001"), S_OK);
+    let plus = of_small(|f| {
+        set(f, 7, 1, 7, b"+");
+        set(f, 7, 1, 8, b"00000000");
+    });
+    assert_eq!(plus, S_OK);
+}
+
+#[test]
+fn r06_a_sign_outside_its_domain_is_one_25() {
+    for number in [&b""[..], b"00000000", b"00000001", b"x"] {
+        let said = of_small(|f| {
+            set(f, 7, 1, 7, b"*");
+            set(f, 7, 1, 8, number);
+        });
+        assert_eq!(said, "NO 25 7 00001 07");
+    }
+}
+
+#[test]
+fn r07_blank_is_byte_20_alone() {
+    let id = of_small(|f| set(f, 5, 1, 4, &[0xA0; 10]));
+    assert_eq!(id, "NO 22 5 00001 04");
+    let name = of_small(|f| set(f, 4, 1, 4, b"\xA0x"));
+    assert_eq!(name, S_OK);
+    let tipo = of_small(|f| set(f, 1, 1, 2, b"\xA0"));
+    assert_eq!(tipo, "NO 25 1 00001 02");
+    let code = of_small(|f| {
+        set(f, 1, 1, 1, b"NA\xA0");
+        set(f, 4, 1, 3, b"NA\xA0");
+    });
+    assert_eq!(code, S_OK);
+}
+
+#[test]
+fn r08_na_and_nd_are_no_codes() {
+    for missing in [&b""[..], b"NA", b"ND"] {
+        let used = of_small(|f| set(f, 5, 1, 5, missing));
+        assert_eq!(used, "NO 24 5 00001 05");
+        let catalogued = of_small(|f| set(f, 1, 1, 1, missing));
+        assert_eq!(catalogued, "NO 24 1 00001 01");
+    }
+    for code in [&b"na"[..], b"N.D.", b"N A", b"NAD", b"NA ND", b"0"] {
+        let both = of_small(|f| {
+            set(f, 1, 1, 1, code);
+            set(f, 4, 1, 3, code);
+        });
+        assert_eq!(both, S_OK);
+    }
+    let shifted = of_small(|f| set(f, 1, 1, 1, b" NA"));
+    assert_eq!(shifted, "NO 23 1 00001 01");
+}
+
+#[test]
+fn a_texts_bytes_are_20_to_7e_and_a0_to_ff() {
+    for byte in 0..=255_u8 {
+        let said = of_small(|f| set(f, 4, 1, 4, &[b'x', byte, b'x']));
+        let lawful = (0x20..=0x7E).contains(&byte) || byte >= 0xA0;
+        let expected = if lawful { S_OK } else { "NO 23 4 00001 04" };
+        assert_eq!(said, expected, "{byte:02X}");
+    }
+    assert_eq!(of_small(|f| set(f, 4, 1, 4, b" x")), "NO 23 4 00001 04");
+    assert_eq!(of_small(|f| set(f, 4, 1, 4, &[b'x'; 60])), S_OK);
+}
+
+#[test]
+fn na_and_nd_are_texts_in_the_free_words() {
+    let files = rich();
+    let values = read(4, &files[3], 2).unwrap();
+    assert_eq!(values[3], Value::Text(b"NA".to_vec()));
+    let blank = of_rich(|f| {
+        set(f, 1, 3, 3, b"");
+        set(f, 1, 4, 4, b"ND");
+        set(f, 2, 1, 5, b"");
+        set(f, 3, 1, 4, b"");
+        set(f, 4, 2, 4, b"");
+    });
+    assert_eq!(blank, RICH_OK);
+}
+
+#[test]
+fn r09_types_and_sense() {
+    for byte in 0..=255_u8 {
+        let in_a = (0x20..=0x7E).contains(&byte) || byte >= 0xA0;
+        let nodo = of_small(|f| set(f, 7, 1, 2, &[byte]));
+        assert_eq!(nodo, if in_a { S_OK } else { "NO 23 7 00001 02" });
+
+        let catalogue = of_rich(|f| set(f, 1, 5, 2, &[byte]));
+        let expected = match byte {
+            b'P' => RICH_OK,
+            b'X' | b'L' | b'T' => "NO 41 2 00002 04",
+            b' ' => "NO 24 1 00005 02",
+            _ if in_a => "NO 25 1 00005 02",
+            _ => "NO 23 1 00005 02",
+        };
+        assert_eq!(catalogue, expected, "{byte:02X}");
+
+        let sense = of_small(|f| set(f, 5, 1, 8, &[byte]));
+        let expected = match byte {
+            b'+' | b'-' | b' ' => S_OK,
+            _ if in_a => "NO 25 5 00001 08",
+            _ => "NO 23 5 00001 08",
+        };
+        assert_eq!(sense, expected, "{byte:02X}");
+    }
+}
+
+#[test]
+fn r10_0_is_an_id_and_a_blank_id_is_none() {
+    let zero = of_small(|f| {
+        set(f, 7, 1, 1, b"0000000000");
+        set(f, 5, 1, 6, b"0000000000");
+        set(f, 5, 1, 1, b"0000000000");
+        set(f, 6, 1, 1, b"0000000000");
+        set(f, 6, 2, 1, b"0000000000");
+    });
+    assert_eq!(zero, S_OK);
+    // A point with a blank node id names no node, not the node 0.
+    let blank = of_rich(|f| {
+        set(f, 7, 1, 1, b"0000000000");
+        set(f, 5, 1, 6, b"0000000000");
+        set(f, 5, 2, 6, b"0000000000");
+    });
+    assert_eq!(blank, RICH_OK);
+}
+
+#[test]
+fn r10_any_digits_in_the_small_numbers() {
+    let said = of_rich(|f| {
+        set(f, 2, 1, 6, b"99999");
+        set(f, 2, 1, 7, b"000");
+        set(f, 3, 1, 5, b"000");
+        set(f, 3, 1, 6, b"999");
+        set(f, 3, 1, 7, b"36000");
+        set(f, 3, 1, 8, b"0");
+    });
+    assert_eq!(said, RICH_OK);
+}
+
+#[test]
+fn records_are_cut_by_length_alone() {
+    // A byte too few in the first record and one too many in the second.
+    let said = of_small(|f| {
+        f[6].remove(11);
+        f[6].push(b'\n');
+    });
+    assert_eq!(said, "NO 20 7 00001 00");
+}
+
+#[test]
+fn r11_each_later_record_with_an_equal_earlier_one() {
+    let keys = of_small(|f| {
+        node(f, 5, 1, 1, None);
+        node(f, 2, 2, 2, None);
+        node(f, 1, 3, 3, None);
+    });
+    assert_eq!(keys, "NO 30 7 00004 01");
+    let vertices = of_small(|f| {
+        vertex(f, 2, 1, 0, 0, None);
+        vertex(f, 1, 2, 0, 0, None);
+    });
+    assert_eq!(vertices, "NO 30 6 00004 02");
+    let codes = of_small(|f| add(f, 1, &[(1, b"0100001"), (2, b"P")]));
+    assert_eq!(codes, "NO 30 1 00003 01");
+    let places = of_small(|f| {
+        node(f, 3, 140, 200, Some(0));
+        node(f, 4, 140, 200, Some(1));
+        node(f, 5, 140, 200, Some(0));
+        node(f, 6, 140, 200, None);
+    });
+    assert_eq!(places, "NO 54 7 00005 00");
+}
+
+#[test]
+fn missing_z_equals_only_missing_z() {
+    let different = of_small(|f| node(f, 3, 140, 200, Some(0)));
+    assert_eq!(different, S_OK.replace("00002 00002", "00002 00003"));
+    let same = of_small(|f| {
+        node(f, 3, 140, 200, Some(0));
+        node(f, 4, 140, 200, Some(0));
+    });
+    assert_eq!(same, "NO 54 7 00004 00");
+}
+
+#[test]
+fn r12_a_blank_line_id_is_the_line_of_the_tramos_own_id() {
+    let other = |f: &mut Files| {
+        set(f, 5, 1, 4, b"0000000005");
+        set(f, 6, 1, 1, b"0000000006");
+        set(f, 6, 2, 1, b"0000000006");
+    };
+    assert_eq!(of_small(other), "NO 40 5 00001 04");
+    let vertices_only = of_small(|f| {
+        other(f);
+        vertex(f, 5, 1, 100, 200, None);
+        vertex(f, 5, 2, 140, 200, None);
+    });
+    assert_eq!(vertices_only, "NO 40 6 00001 01");
+    // A filled line id uses only the line it names, not also its own.
+    let own = of_small(|f| {
+        set(f, 5, 1, 4, b"0000000005");
+        vertex(f, 5, 1, 100, 200, None);
+        vertex(f, 5, 2, 140, 200, None);
+    });
+    assert_eq!(own, "NO 40 6 00001 01");
+    let blank = of_small(|f| set(f, 5, 1, 1, b"0000000009"));
+    assert_eq!(blank, "NO 40 5 00001 04");
+}
+
+#[test]
+fn r13_composites_and_perimeters_have_no_file() {
+    for id in [&b"0000000000"[..], b"0000000001"] {
+        assert_eq!(of_rich(|f| set(f, 2, 2, 2, id)), "NO 40 2 00002 02");
+        assert_eq!(of_rich(|f| set(f, 3, 1, 2, id)), "NO 40 3 00001 02");
+        assert_eq!(of_rich(|f| set(f, 4, 2, 2, id)), "NO 40 4 00002 02");
+        assert_eq!(of_rich(|f| set(f, 5, 3, 3, id)), "NO 40 5 00003 03");
+    }
+}
+
+#[test]
+fn codes_are_catalogued_under_their_files_type() {
+    for (file, field, own) in [
+        (2, 4, &b"0200000"[..]),
+        (3, 3, b"0300000"),
+        (4, 3, b"0100000"),
+        (5, 5, b"0100001"),
+    ] {
+        let unknown = of_rich(|f| set(f, file, 1, field, b"7777777"));
+        assert_eq!(unknown, format!("NO 40 {file} 00001 {field:02}"));
+        for code in [&b"0100000"[..], b"0100001", b"0200000", b"0300000"] {
+            let said = of_rich(|f| set(f, file, 1, field, code));
+            if code == own {
+                assert_eq!(said, RICH_OK);
+            } else {
+                assert_eq!(said, format!("NO 41 {file} 00001 {field:02}"));
+            }
+        }
+    }
+    let unused = of_small(|f| add(f, 1, &[(1, b"8"), (2, b"X")]));
+    assert_eq!(unused, S_OK.replace("OK 00002", "OK 00003"));
+}
+
+#[test]
+fn r14_the_fifties_are_read_of_the_same_delivery() {
+    let gap = |f: &mut Files| set(f, 6, 2, 2, b"00003");
+    // 51 at the 1 stands before 50 at the 3, unless the 3 stands before it.
+    assert_eq!(of_small(gap), "NO 51 6 00001 02");
+    let turned = of_small(|f| {
+        gap(f);
+        f[5].rotate_left(54);
+    });
+    assert_eq!(turned, "NO 50 6 00001 02");
+    // 53 takes the highest order there is, broken orders or not.
+    let moved = of_small(|f| {
+        gap(f);
+        set(f, 6, 2, 4, b"000000141");
+    });
+    assert_eq!(moved, "NO 53 5 00001 07");
+    // 52 asks only where an order 1 exists.
+    let without_1 = of_small(|f| {
+        set(f, 6, 1, 2, b"00000");
+        set(f, 6, 1, 4, b"000000777");
+    });
+    assert_eq!(without_1, "NO 50 6 00001 02");
+    let order_0 = of_small(|f| vertex(f, 1, 0, 0, 0, None));
+    assert_eq!(order_0, "NO 50 6 00003 02");
+    let lonely_0_and_1 = of_small(|f| {
+        set(f, 6, 2, 2, b"00000");
+        set(f, 5, 1, 7, b"0000000001");
+    });
+    assert_eq!(lonely_0_and_1, "NO 51 6 00001 02");
+}
+
+#[test]
+fn only_the_order_number_counts() {
+    let turned = of_small(|f| f[5].rotate_left(54));
+    assert_eq!(turned, S_OK);
+    // Ten vertices, the last first: 10 is over 9, though not as a text.
+    let mut files = small();
+    files[5].clear();
+    for order in (1..=10).rev() {
+        vertex(
+            &mut files,
+            1,
+            order,
+            100 + 40 * (order as i64 - 1),
+            200,
+            None,
+        );
+    }
+    assert_eq!(said(&files), "NO 53 5 00001 07");
+    set(&mut files, 7, 2, 4, b"000000460");
+    assert_eq!(said(&files), S_OK.replace("00002 00002", "00010 00002"));
+}
+
+#[test]
+fn z_is_not_read_where_places_meet() {
+    let heights = of_rich(|f| {
+        for (i, z) in [b"00000003", b"00000004"].iter().enumerate() {
+            set(f, 6, i + 1, 7, b"-");
+            set(f, 6, i + 1, 8, *z);
+        }
+        set(f, 7, 3, 7, b"+");
+        set(f, 7, 3, 8, b"00000009");
+    });
+    assert_eq!(heights, RICH_OK);
+    // Any of the nodes at one X and Y may be a tramo's end.
+    let other_end = of_rich(|f| set(f, 5, 3, 7, b"0000000005"));
+    assert_eq!(other_end, RICH_OK);
+}
+
+#[test]
+fn a_point_is_held_against_the_node_it_names() {
+    let x = of_rich(|f| set(f, 2, 1, 9, b"000000008"));
+    assert_eq!(x, "NO 55 2 00001 03");
+    let y = of_rich(|f| set(f, 2, 1, 11, b"0000000001"));
+    assert_eq!(y, "NO 55 2 00001 03");
+    let none = of_rich(|f| set(f, 2, 1, 3, b""));
+    assert_eq!(none, "NO 56 7 00003 00");
+    let unknown = of_rich(|f| set(f, 2, 2, 3, b"0000000099"));
+    assert_eq!(unknown, "NO 40 2 00002 03");
+}
+
+#[test]
+fn a_node_has_a_use() {
+    let at_a_vertex = of_small(|f| node(f, 3, 100, 200, Some(1)));
+    assert_eq!(at_a_vertex, S_OK.replace("00002 00002", "00002 00003"));
+    let middle = of_rich(|f| node(f, 6, 0, 0, None));
+    assert_eq!(middle, RICH_OK.replace("00005 00005", "00005 00006"));
+    let beside = of_rich(|f| node(f, 6, 0, 1, None));
+    assert_eq!(beside, "NO 56 7 00006 00");
+    let linear = of_small(|f| add(f, 4, &[(1, b"0000000002"), (3, b"0100000")]));
+    assert_eq!(linear, "NO 57 4 00002 00");
+}
+
+#[test]
+fn centroids_and_texts_lie_anywhere() {
+    let said = of_rich(|f| {
+        place(f, 3, 1, 9, -5, -6, Some(-7));
+        place(f, 4, 2, 5, -5, -6, Some(-7));
+        place(f, 2, 2, 8, -5, -6, Some(-7));
+    });
+    assert_eq!(said, RICH_OK);
+}
+
+#[test]
+fn a_line_without_vertices_is_40_before_59() {
+    assert_eq!(of_small(|f| f[5].clear()), "NO 40 5 00001 04");
+}
+
+#[test]
+fn big_goes_before_everything() {
+    let mut files = small();
+    files[6] = vec![0; 8_192];
+    assert_eq!(said(&files), "NO 11 7 00164 00");
+    files[6].push(0);
+    assert_eq!(said(&files), "BIG 7");
+    files[3] = vec![0; 8_193];
+    files[1] = vec![0; 8_192];
+    assert_eq!(program_line(lent(&files)), "BIG 4\n");
+}
+
+#[test]
+fn too_long_goes_before_ragged() {
+    for file in 1..=7 {
+        let mut files = Files::default();
+        let length = LENGTHS[file - 1];
+        let verdict = |files: &Files| match judge(lent(files)) {
+            Verdict::Broken(b) => (b.reason, b.file, b.record, b.field),
+            Verdict::Accepted(_) => (0, 0, 0, 0),
+        };
+        files[file - 1] = vec![b' '; 16_384 * length - 1];
+        assert_eq!(verdict(&files), (11, file, 16_384, 0));
+        files[file - 1].push(b' ');
+        assert_eq!(verdict(&files), (20, file, 1, 0));
+        files[file - 1].push(b' ');
+        assert_eq!(verdict(&files), (10, file, 0, 0));
+        if file > 1 {
+            files[file - 2].push(b' ');
+            assert_eq!(verdict(&files), (11, file - 1, 1, 0));
+        }
+    }
+}
+
+#[test]
+fn as_many_records_as_allowed_are_judged() {
+    let mut files = small();
+    files[5].clear();
+    let orders = 16_384;
+    for order in (1..=orders).rev() {
+        let x = if order == orders {
+            140
+        } else {
+            99 + order as i64
+        };
+        vertex(&mut files, 1, order, x, 200, None);
+    }
+    assert_eq!(
+        judge(lent(&files)),
+        Verdict::Accepted([2, 0, 0, 1, 1, 16_384, 2])
+    );
+    set(&mut files, 6, 16_000, 1, b"0000000002");
+    let found = Break {
+        reason: 40,
+        file: 6,
+        record: 16_000,
+        field: 1,
+    };
+    assert_eq!(judge(lent(&files)), Verdict::Broken(found));
+}
+
+#[test]
+fn r16_free_words_change_no_verdict() {
+    let reword = |f: &mut Files| {
+        set(f, 1, 1, 3, b"otro");
+        set(f, 1, 2, 4, b"||||");
+        set(f, 4, 1, 4, &[0xFF; 60]);
+    };
+    assert_eq!(of_small(reword), S_OK);
+    let broken = |f: &mut Files| set(f, 7, 2, 4, b"000000141");
+    let reworded = of_small(|f| {
+        broken(f);
+        reword(f);
+    });
+    assert_eq!(of_small(broken), reworded);
+    let points_and_texts = of_rich(|f| {
+        set(f, 2, 1, 5, b"x");
+        set(f, 3, 1, 4, b"NO");
+    });
+    assert_eq!(points_and_texts, RICH_OK);
+}
+
+#[test]
+fn r02_a_missing_bar_damages_no_field_beside() {
+    // Fields are found by place: a digit where the bar was belongs to neither
+    // neighbour, and with a bar in a field's own place the bars stay whole.
+    let mut files = small();
+    files[5][after(6, 1, 1)] = b'0';
+    let bar = Refusal {
+        reason: 21,
+        field: 1,
+    };
+    assert_eq!(read(6, &files[5], 1), Err(bar));
+    files[5][after(6, 1, 1)] = b'|';
+    files[5][after(6, 1, 1) - 1] = b'|';
+    let number = Refusal {
+        reason: 22,
+        field: 1,
+    };
+    assert_eq!(read(6, &files[5], 1), Err(number));
+}

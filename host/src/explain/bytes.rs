@@ -1,0 +1,225 @@
+//! What is told of one file's bytes: its shape (10, 11) and its records' fields (20 to 25).
+
+use canopyrail::names::{self, Form};
+use canopyrail::Break;
+
+use super::Page;
+use crate::delivery::Delivery;
+use crate::layout::{end_part, field_words, limit, x_field, Part, CATALOGO, OB_LIN, TRAMO};
+use crate::picture::{byte_words, grouped, many, shown};
+
+pub fn too_long(page: &mut Page, b: &Break) {
+    let text = format!(
+        "{} has more than {} bytes, which are {} records of {} bytes.",
+        names::file(b.file),
+        grouped(limit(b.file)),
+        grouped(canopyrail::RECORDS),
+        canopyrail::length(b.file)
+    );
+    page.say("Here", &text);
+}
+
+pub fn ragged(page: &mut Page, delivery: &Delivery, b: &Break) {
+    let bytes = delivery.bytes(b.file);
+    let length = canopyrail::length(b.file);
+    let name = names::file(b.file);
+    let left = delivery.record(b.file, b.record).len();
+    let whole = many(delivery.count(b.file), "whole record");
+    let text = format!(
+        "{name} has {}: {whole} of {length}, then {}.",
+        many(bytes.len(), "byte"),
+        many(left, "byte")
+    );
+    page.say("Here", &text);
+    page.more(&tail_words(delivery.record(b.file, b.record)));
+    page.more(&step_words(bytes, length));
+}
+
+/// What a file's odd bytes look like, where that is known.
+fn tail_words(tail: &[u8]) -> String {
+    let what = match tail {
+        [0x1A] => "That is the end mark of old systems (1A).",
+        [b'\r', b'\n'] | [b'\n'] | [b'\r'] => "That is a line end without a record.",
+        _ if tail.iter().all(|byte| *byte == 0) => {
+            "They are zero bytes, which a copy can leave behind."
+        }
+        _ => "",
+    };
+    what.to_string()
+}
+
+/// Where a file's first line ends, if elsewhere than a record does.
+fn step_words(bytes: &[u8], length: usize) -> String {
+    match bytes.iter().position(|byte| *byte == b'\n') {
+        Some(place) if place + 1 != length => {
+            let byte = grouped(place + 1);
+            format!("The file's first line feed is its byte {byte}; a record has {length}.")
+        }
+        None if bytes.len() >= length => "The file has no line feed.".to_string(),
+        _ => String::new(),
+    }
+}
+
+pub fn bad_end(page: &mut Page, delivery: &Delivery, b: &Break) {
+    let record = delivery.record(b.file, b.record);
+    let length = canopyrail::length(b.file);
+    page.say("Here", &end_words(b.file, record));
+    // Records before this one end where they should, so it begins where it should and its own line
+    // end tells its length.
+    let start = (b.record - 1) * length;
+    let rest = delivery.bytes(b.file).get(start..).unwrap_or(&[]);
+    page.more(&own_step_words(rest, length));
+}
+
+fn own_step_words(rest: &[u8], length: usize) -> String {
+    match rest.iter().position(|byte| *byte == b'\n') {
+        Some(place) if place + 1 < length => format!(
+            "Its line feed comes too early, as byte {} of {length}.",
+            place + 1
+        ),
+        Some(place) if place + 1 > length => {
+            format!(
+                "Its line feed comes too late, as byte {} where the record has {length}.",
+                place + 1
+            )
+        }
+        Some(_) => {
+            "Its line feed is in its place, and the carriage return before it is not.".to_string()
+        }
+        None => "No line feed follows at all.".to_string(),
+    }
+}
+
+fn end_words(file: usize, record: &[u8]) -> String {
+    let end = end_part(file).of(record);
+    let found: Vec<String> = end.iter().map(|byte| byte_words(*byte)).collect();
+    format!("In place of the end bytes stand {}.", found.join(" and "))
+}
+
+/// What a reason that reads one record marks in it.
+pub fn field_marks(file: usize, reason: u8, field: usize) -> Vec<Part> {
+    let place = Part::field(file, field);
+    match reason {
+        20 => vec![end_part(file)],
+        21 => vec![Part {
+            start: place.end,
+            end: place.end + 1,
+        }],
+        _ => vec![place],
+    }
+}
+
+/// What a reason of 20 to 25 finds in a record; nothing of other reasons.
+pub fn field_here(file: usize, record: &[u8], reason: u8, field: usize) -> String {
+    let place = Part::field(file, field);
+    let bytes = place.of(record);
+    match reason {
+        20 => end_words(file, record),
+        21 => match record.get(place.end) {
+            Some(byte) => format!("After the field stands {}.", byte_words(*byte)),
+            None => String::new(),
+        },
+        22 => not_number(bytes),
+        23 => not_text(bytes),
+        24 => missing(file, record, field),
+        25 => outside(file, record, field),
+        _ => String::new(),
+    }
+}
+
+fn not_number(bytes: &[u8]) -> String {
+    let bar = if bytes.contains(&b'|') {
+        " A bar in it: is a field before it written with the wrong width?"
+    } else {
+        ""
+    };
+    match bytes.iter().position(|byte| !byte.is_ascii_digit()) {
+        Some(place) => format!(
+            "Byte {} of the field is {}.{bar}",
+            place + 1,
+            byte_words(bytes[place])
+        ),
+        None => String::new(),
+    }
+}
+
+fn not_text(bytes: &[u8]) -> String {
+    if bytes.first() == Some(&b' ') {
+        return "The field begins in a blank and is not all blank.".to_string();
+    }
+    match bytes
+        .iter()
+        .position(|byte| matches!(*byte, 0x00..=0x1F | 0x7F..=0x9F))
+    {
+        Some(place) => format!(
+            "Byte {} of the field is {}.",
+            place + 1,
+            byte_words(bytes[place])
+        ),
+        None => String::new(),
+    }
+}
+
+fn is_blank(bytes: &[u8]) -> bool {
+    bytes.iter().all(|byte| *byte == b' ')
+}
+
+/// The other half of a coordinate.
+fn partner(file: usize, field: usize) -> Option<usize> {
+    match names::form(file, field)? {
+        Form::Sign => Some(field + 1),
+        Form::Coordinate => Some(field - 1),
+        Form::Number | Form::Text => None,
+    }
+}
+
+fn missing(file: usize, record: &[u8], field: usize) -> String {
+    let part = |field: usize| Part::field(file, field).of(record);
+    if !is_blank(part(field)) {
+        return format!(
+            "The field says {}, which is no code.",
+            shown(part(field)).trim_end()
+        );
+    }
+    match partner(file, field) {
+        Some(other) if !is_blank(part(other)) => {
+            format!(
+                "The field is blank, and its partner, {}, holds {}.",
+                field_words(file, other),
+                shown(part(other))
+            )
+        }
+        Some(_) if file == OB_LIN => centroid_words(record),
+        _ => "The field is blank.".to_string(),
+    }
+}
+
+/// Which parts of a centroid are there.
+fn centroid_words(record: &[u8]) -> String {
+    let there = |field: &usize| !is_blank(Part::field(OB_LIN, *field).of(record));
+    let first = x_field(OB_LIN) - 1;
+    let filled: Vec<&str> = (first..first + 6)
+        .filter(there)
+        .map(|field| names::field(OB_LIN, field))
+        .collect();
+    format!(
+        "The field is blank, and of the centroid these are filled: {}.",
+        filled.join(", ")
+    )
+}
+
+fn outside(file: usize, record: &[u8], field: usize) -> String {
+    let bytes = Part::field(file, field).of(record);
+    if names::form(file, field) == Some(Form::Sign) && bytes == b"-" {
+        return format!(
+            "The sign is -, and {} is zero.",
+            names::field(file, field + 1)
+        );
+    }
+    let may = match (file, names::field(file, field)) {
+        (CATALOGO, "TIPO") => "P (point), X (text), L (line) or T (tramo)",
+        (TRAMO, "SENTIDO") => "+, - or a blank",
+        _ => "+ or -",
+    };
+    format!("The field holds {}; it may hold {may}.", shown(bytes))
+}

@@ -1,0 +1,128 @@
+//! What the command says of itself.
+
+/// A few lines for someone who mistyped.
+pub const USAGE: &str = "\
+usage: canopyrail judge DIR
+       canopyrail explain DIR
+       canopyrail show [--as NAME] FILE RECORD
+       canopyrail help [judge | explain | show]
+";
+
+pub const GENERAL: &str = "\
+canopyrail: checks MIGRA v1 map deliveries (chain-node profile, seven files)
+
+usage:
+  canopyrail judge DIR                      judge a delivery and print one line
+  canopyrail explain DIR                    the same line, then what is wrong in plain words
+  canopyrail show [--as NAME] FILE RECORD   one record's values, a field a line
+  canopyrail help [COMMAND]                 this page, or a command's own
+  canopyrail --version                      the version
+
+DIR has the delivery's files CATALOGO, OB_PUN, OB_TEX, OB_LIN, TRAMO, VERTICE and NODO, in capitals.
+A file that is absent counts as an empty one.
+
+exit status:
+  0  accepted (show: the record is lawful)
+  1  refused (show: the record is not lawful)
+  2  could not judge (show: could not read): there is only a message on standard error
+
+example:
+  $ canopyrail judge north-ridge
+  NO 53 5 00001 07
+  $ canopyrail explain north-ridge
+  NO 53 5 00001 07
+
+  Where   TRAMO record 1, field 7 ID_NODOF (the end node)
+  ...
+  Wrong   The line ends elsewhere than its end node.
+  ...
+
+`canopyrail help judge` says how to read the line.
+";
+
+pub const JUDGE: &str = "\
+usage: canopyrail judge DIR
+
+Judges the delivery in DIR and prints one line:
+
+  OK 00002 00000 00000 00001 00001 00002 00002
+     accepted: the records of CATALOGO, OB_PUN, OB_TEX, OB_LIN, TRAMO, VERTICE and NODO
+
+  NO 53 5 00001 07
+     |  | |     +--- field of the record, counted from 1; 00: the record as a whole
+     |  | +--------- record, counted from 1; 00000: the file as a whole
+     |  +----------- file: 1 CATALOGO, 2 OB_PUN, 3 OB_TEX, 4 OB_LIN, 5 TRAMO, 6 VERTICE, 7 NODO
+     +-------------- reason: 10-11 the file, 20-25 a record's bytes, 30 a key used twice,
+                     40-41 something named that is not there, 50-57 lines and nodes
+
+The first fault in a fixed order is told; there may be more behind it. `canopyrail explain DIR` says
+it in words.
+
+DIR has the seven files under these names, in capitals. An absent file counts as an empty one; one
+that is there and can't be read whole means that the delivery could not be judged. A file may have
+16,384 records.
+
+exit status:
+  0  accepted
+  1  refused
+  2  could not judge: there is only a message on standard error
+
+example:
+  canopyrail judge north-ridge && load-into-base north-ridge
+";
+
+pub const EXPLAIN: &str = "\
+usage: canopyrail explain DIR
+
+Judges the delivery in DIR, prints the line that `canopyrail judge DIR` prints, and then says it in
+plain words:
+
+  Where   file, record and field by MIGRA's names, and the record's bytes, marked with ^ beneath
+  Wrong   what is wrong
+  Here    what stands in this delivery, with the other records that matter
+  Rule    the reason's number, and what the rule says
+  Ask     what to ask the contractor
+
+Of an accepted delivery it gives the records of each file by name. Bytes that don't print, bytes of
+accented letters, and the backslash are shown as \\xNN, their number in base sixteen. A long record
+goes over several lines, each with the number of its first field and a colon before it.
+
+exit status:
+  0  accepted
+  1  refused
+  2  could not judge: there is only a message on standard error
+
+example:
+  canopyrail explain north-ridge | less
+";
+
+pub const SHOW: &str = "\
+usage: canopyrail show [--as NAME] FILE RECORD
+
+Shows the values of one record of a file, a field a line: the field's number, MIGRA's name, and the
+value or the word missing. Numbers are shown without leading zeros, coordinates with their sign,
+texts in quotes with bytes that are not plain ASCII as \\xNN. RECORD counts from 1.
+
+FILE's name is one of CATALOGO, OB_PUN, OB_TEX, OB_LIN, TRAMO, VERTICE, NODO; where it is another,
+--as NAME says which of the seven it is. Only this one record is looked at.
+
+exit status:
+  0  the record is lawful
+  1  it is not: reason and field are said, and the bytes marked
+  2  it can't be read: no such file, or no such record
+
+examples:
+  canopyrail show north-ridge/NODO 2
+  canopyrail show --as NODO old/nodo.nod 2
+";
+
+/// The page of a command.
+pub fn page(command: &str) -> Option<&'static str> {
+    match command {
+        "judge" => Some(JUDGE),
+        "explain" => Some(EXPLAIN),
+        "show" => Some(SHOW),
+        "help" => Some(GENERAL),
+        _ => None,
+    }
+}
