@@ -8,20 +8,24 @@ use mathlib.Core.Option.{none}
 use mathlib.Core.Path.{_≡_, refl, sym, ap₂, _∙_}
 use native.Mathlib.Omega.{arith}
 use lib.Dec.{eqb}
+use lib.ListN.{getD}
 use borrow.Author.Tests.{eqb-true, eqb-false, eq-eqb}
-use Rattle.laws.specs.Find.{firstIndex, any}
-use Rattle.laws.proofs.FindLaws.{any-true, any-false, any-no}
+use Rattle.laws.specs.Find.{firstIndex, any, names}
+use Rattle.laws.proofs.FindLaws.{any-true, any-false, any-no, index-of-any}
 use Rattle.laws.proofs.RowLaws.{and-true}
-use Rattle.index.specs.Keys.{listed, repeated}
+use Rattle.index.specs.Keys.{foundOf, duplicateIn}
 use Rattle.index.specs.Look.{Sought}
 use Rattle.index.specs.declared.Found.{Found}
 use Rattle.index.specs.declared.Found.the-variants.{At, Nothing}
 use Rattle.index.proofs.LookLaws.{sought-record, sought-none}
-use Rattle.index.proofs.TwiceLaws.{distinct-none, no-pair, duplicate-filled}
+use Rattle.index.proofs.TwiceLaws.{no-pair}
 use Rattle.record.specs.declared.kind.Kind.the-variants.{Nodo}
 use Rattle.record.specs.Says.{Table}
 use Rattle.keys.specs.Columns.{Fills}
+use Rattle.keys.specs.Rules.{repeats}
 use Rattle.keys.proofs.ReferLaws.{names-column}
+use Rattle.keys.proofs.FoundLaws.{any-of-nothing}
+use Rattle.keys.proofs.ColumnLaws.{repeat-filled}
 use Rattle.topology.specs.Places.{positionOf, spotOf}
 use Rattle.topology.specs.Rules.{xAt, yAt, zAt, samePlace, placedBefore}
 
@@ -76,9 +80,26 @@ same-spot t i j e =
     let g = and-true (eqb (yAt Nodo t j) (yAt Nodo t i)) _ (h .1) in
     rw (eqb-true (xAt Nodo t j) (xAt Nodo t i) (h .0), eqb-true (yAt Nodo t j) (yAt Nodo t i) (g .0), eqb-true (zAt Nodo t j) (zAt Nodo t i) (g .1))
 
-pub spots-apart : (t : Table) {l : List ℕ} {n : ℕ} {r : Bool} → Fills l (spotAt t) (t .count) n → r ≡ not (repeated (listed l) n) → r ≡ true
-    → firstIndex (placedBefore t) (t .count) ≡ none
+-- of a node with no earlier one of its spot, where the spots are in an array
+pub spot-new : (t : Table) {l : List ℕ} {n i : ℕ} → Fills l (spotAt t) (t .count) n → i < n → names (λ j. getD l j 0) i (getD l i 0) ≡ false → placedBefore t i ≡ false
 unfolding placedBefore
+spot-new t {l} {n} {i} fills u e =
+    any-false _ i not-same
+  where
+    not-same : (j : ℕ) → j < i → samePlace t i j ≡ false
+    not-same j w = go (samePlace t i j) refl
+      where
+        go : (b : Bool) → samePlace t i j ≡ b → b ≡ false
+        go false q = refl
+        go true q =
+            absurd
+            (eqb-false (getD l j 0) (getD l i 0) (any-no _ i e w)
+            (fills .holds j (omega (arith, fills .count)) ∙ same-spot t i j q ∙ sym (fills .holds i (omega (arith, fills .count)))))
+
+-- of all, where no spot is repeated
+pub spots-apart : (t : Table) {l : List ℕ} {n : ℕ} {found : Found} → Fills l (spotAt t) (t .count) n → found ≡ foundOf (duplicateIn l n) → found ≡ Nothing
+    → firstIndex (placedBefore t) (t .count) ≡ none
+unfolding placedBefore repeats
 spots-apart t {l} {n} fills e h =
-    let one = rw (fills .count) at (distinct-none (listed l) n e h) in
-    no-pair (λ j i. samePlace t i j) (spotAt t) (t .count) (λ j i s. same-spot t i j s) (sym (duplicate-filled (spotAt t) l (t .count) (fills .holds)) ∙ one)
+    no-pair (λ j i. samePlace t i j) (spotAt t) (t .count) (λ j i s. same-spot t i j s)
+    (index-of-any (λ i. repeats (spotAt t) i) (t .count) (any-of-nothing (λ i. repeats (spotAt t) i) (t .count) (repeat-filled (spotAt t) fills e) h))

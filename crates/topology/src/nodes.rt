@@ -7,15 +7,14 @@ use crate::places::z_at;
 use index::Found;
 use index::look::has;
 use index::order::sort;
-use index::twice::distinct;
+use index::twice::duplicate;
 use keys::column::fill_names;
 use keys::names::name;
 use record::columns::rows;
 use record::kind::Kind;
 ghost use mathlib.Core.Path.{_≡_};
-ghost use mathlib.Core.Bool.{true, not, _||_};
+ghost use mathlib.Core.Bool.{not, _||_};
 ghost use mathlib.Core.List.{List, []};
-ghost use mathlib.Core.Option.{none};
 ghost use Prim.Native.Nat.{ℕ, _+_, _*_, _%_, _≤_, _<_, _^_};
 ghost use lib.Dec.{eqb};
 ghost use lib.ListN.{length, getD};
@@ -52,22 +51,6 @@ pub(crate) fn place_before(nodo: &[u8], i: usize) -> Found
     Found::Nothing
 }
 
-// The first node at an earlier one's place, by scans within a scan.
-fn scan_repeat(nodo: &[u8]) -> Found
-    ensures { λ r. ⌜ r ≡ foundOf (firstIndex (placedBefore (tableOf (now (nodo .entry)) Kind.Nodo)) (tableOf (now (nodo .entry)) Kind.Nodo .count)) ⌝ }
-{
-    let n = rows(nodo, Kind::Nodo);
-    let mut i = 0;
-    while i < n {
-        let before = place_before(nodo, i);
-        if let Found::At(_) = before {
-            return Found::At(i);
-        }
-        i += 1;
-    }
-    Found::Nothing
-}
-
 // X, Y and Z as one number: equal places have equal numbers.
 fn spot(x: u64, y: u64, z: u64) -> u64
     ensures { λ r. ⌜ r ≡ spotOf x y z ⌝ }
@@ -89,28 +72,51 @@ fn fill_spots(nodo: &[u8], out: &mut [u64; 16384]) -> usize
     n
 }
 
-// Whether an index shows that no two nodes are at one place.
-fn shown_apart(nodo: &[u8]) -> bool
-    ensures { λ r. ⌜ (r ≡ true → firstIndex (placedBefore (tableOf (now (nodo .entry)) Kind.Nodo)) (tableOf (now (nodo .entry)) Kind.Nodo .count) ≡ none) ⌝ }
+// Whether one of the first i numbers is number i.
+fn spot_before(spots: &[u64], i: usize) -> bool
+    requires { ⌜ i < length (now spots) ⌝ }
+    ensures { λ r. ⌜ r ≡ names (λ j. getD (now (spots .entry)) j 0) i (getD (now (spots .entry)) i 0) ⌝ }
 {
-    let mut spots = [0u64; 16384];
-    let n = fill_spots(nodo, &mut spots);
-    let mut order = [0usize; 16384];
-    if sort(&spots, &mut order, n) {
-        distinct(&spots, &order, n)
-    } else {
-        false
+    let x = spots[i];
+    let mut j = 0;
+    while j < i {
+        if spots[j] == x {
+            return true;
+        }
+        j += 1;
     }
+    false
 }
 
-// 54: the first node at an earlier one's place. The scans run only where two nodes have one number.
+// The first node at an earlier one's place, by scans within a scan. Nodes are read only where an earlier one has their number.
+fn scan_repeat<'a>(nodo: &'a [u8], spots: &'a [u64], n: usize) -> Found
+    requires { ⌜ Fills (now spots) (λ i. spotOf (xAt Kind.Nodo (tableOf (now nodo) Kind.Nodo) i) (yAt Kind.Nodo (tableOf (now nodo) Kind.Nodo) i) (zAt Kind.Nodo (tableOf (now nodo) Kind.Nodo) i)) (tableOf (now nodo) Kind.Nodo .count) n ⌝ }
+    ensures { λ r. ⌜ r ≡ foundOf (firstIndex (placedBefore (tableOf (now (nodo .entry)) Kind.Nodo)) (tableOf (now (nodo .entry)) Kind.Nodo .count)) ⌝ }
+{
+    let mut i = 0;
+    while i < n {
+        if spot_before(spots, i) {
+            let before = place_before(nodo, i);
+            if let Found::At(_) = before {
+                return Found::At(i);
+            }
+        }
+        i += 1;
+    }
+    Found::Nothing
+}
+
+// 54: the first node at an earlier one's place. Where no two nodes have one number there is none.
 pub(crate) fn first_repeat_place(nodo: &[u8]) -> Found
     ensures { λ r. ⌜ r ≡ foundOf (firstIndex (placedBefore (tableOf (now (nodo .entry)) Kind.Nodo)) (tableOf (now (nodo .entry)) Kind.Nodo .count)) ⌝ }
 {
-    if shown_apart(nodo) {
-        return Found::Nothing;
+    let mut spots = [0u64; 16384];
+    let n = fill_spots(nodo, &mut spots);
+    let found = duplicate(&spots, n);
+    match found {
+        Found::Nothing => Found::Nothing,
+        Found::At(_) => scan_repeat(nodo, &spots, n),
     }
-    scan_repeat(nodo)
 }
 
 // Marks the records of s whose field f is a name in hand.
