@@ -18,12 +18,12 @@ use Rattle.field.specs.Bytes.{allOf}
 use Rattle.record.specs.declared.kind.Kind.{Kind}
 use Rattle.record.specs.declared.kind.Form.the-variants.{Sign, Size}
 use Rattle.record.specs.declared.reason.Finding.the-variants.{Fine}
-use Rattle.record.specs.Table.{colAt, formAt, widthAt, mustAt, beforeAt, afterAt, offsetAt, fieldsOf, lengthOf, isN}
+use Rattle.record.specs.Table.{colAt, formAt, widthAt, mustAt, beforeAt, afterAt, offsetAt, fieldsOf, lengthOf, isN, codeOf}
 use Rattle.record.specs.Cut.{textOf}
 use Rattle.record.specs.Rules.{missingIn, outside, partnersBlank, breaks22, breaks23, breaks24, breaks25, twenties}
 use Rattle.record.specs.Breaks.{atPlace, findingOf, recordFinding}
 use Rattle.record.specs.Says.{Said, saidAs, saidIn}
-use Rattle.record.proofs.TableLaws.{codeOf, sane, widths, within}
+use Rattle.record.proofs.TableLaws.{sane, widths, within}
 use Rattle.codec.specs.Values.{noValue, saidBy, valueOf, valueAt, valuesSay, valuesIn}
 use Rattle.codec.specs.Writes.{bytesAs, fieldBytes, joined, encode}
 use Rattle.codec.specs.Refusals.{tooLarge, badSaid, blankAs, blankAt, missingAs, partnersMissing, refuses62, refuses63, refuses64, refuses65, sixties, sixtyReasons, valueBreaks, valuesFinding}

@@ -22,10 +22,10 @@ use Rattle.field.proofs.DigitLaws.{digits-of-number, number-of-lt, zero-number,
 use Rattle.field.proofs.TextLaws.{blank-is, trimmed-le, trimmed-last, trimmed-first, trimmed-text, trimmed-some, padded-trimmed, first-bytes-padded}
 use Rattle.record.specs.declared.kind.Form.{Form}
 use Rattle.record.specs.declared.kind.Form.the-variants.{Words, Code, Tipo, Sense, Sign, Number, Size}
-use Rattle.record.specs.Table.{isN, formOf}
+use Rattle.record.specs.Table.{isN, codeOf, formOf}
 use Rattle.record.specs.Rules.{notNumber, notText, missingIn, outside, isSignByte}
 use Rattle.record.specs.Says.{Said, missing, number, text, coordinate, textSaid, saidAs, isMissing}
-use Rattle.record.proofs.TableLaws.{codeOf, form-code}
+use Rattle.record.proofs.TableLaws.{form-code}
 use Rattle.codec.specs.Values.{valueOf, saidBy, textBy, textValue}
 use Rattle.codec.specs.Writes.{bytesAs, textBytes, numberBytes, signBytes}
 use Rattle.codec.specs.Refusals.{tooLarge, badText, badSaid, blankAs, missingAs, outsideSaid}

@@ -21,27 +21,21 @@ use Rattle.field.proofs.TextLoops.{length-padded}
 use Rattle.record.specs.declared.kind.Kind.{Kind}
 use Rattle.record.specs.declared.kind.Form.{Form}
 use Rattle.record.specs.declared.kind.Form.the-variants.{Words, Code, Tipo, Sense, Sign, Number, Size}
-use Rattle.record.specs.Table.{Col, roomIn, colAt, formAt, widthAt, beforeAt, afterAt, mustAt, offsetAt, fieldsOf, lengthOf, formOf}
+use Rattle.record.specs.Table.{Col, roomIn, colAt, formAt, widthAt, beforeAt, afterAt, mustAt, offsetAt, fieldsOf, lengthOf, codeOf, formOf}
 use Rattle.record.specs.Cut.{textOf}
 use Rattle.record.specs.Rules.{breaks20, breaks21}
 use Rattle.record.specs.Says.{Said, missing, number, text, coordinate}
-use Rattle.record.proofs.TableLaws.{each-getD, sane, col-past, offset-next, within, offset-end, flat, isByte, read, codeOf, form-code, one-picked}
+use Rattle.record.proofs.TableLaws.{each-getD, sane, col-past, offset-next, within, offset-end, everywhere, every-place, form-code, one-picked}
 use Rattle.codec.specs.Writes.{numberBytes, signBytes, textBytes, bytesAs, fieldBytes, ending, joined, fieldsBytes, encode}
 
 -- THE TABLE
--- tests of places, where a guard holds: they are computed for the 16 places of every kind as one of the code's tables, in which a place
--- that fails would be no byte
+-- tests of places, where a guard holds
 module _ (guard : Kind → ℕ → Bool) (tests : Kind → ℕ → List Bool) where
-  abbrev failing : Kind → ℕ → ℕ
-  failing k f = pick (not (guard k f) || each (λ b. b) (tests k f)) 0 256
+  abbrev passing : Kind → ℕ → Bool
+  passing k f = not (guard k f) || each (λ b. b) (tests k f)
 
-  passed : each isByte (flat failing) ≡ true → (k : Kind) (f : ℕ) → f < 16 → guard k f ≡ true → (i : ℕ) → getD (tests k f) i true ≡ true
-  passed e k f l h = each-getD (λ b. b) (tests k f) true refl (go (guard k f) (each (λ b. b) (tests k f)) h (read failing e k f refl l))
-    where
-      go : {n : ℕ} (a b : Bool) → a ≡ true → (n ≡ pick (not a || b) 0 256) × (n < 256) → b ≡ true
-      go a true t h = refl
-      go true false t h = absurd (omega arith)
-      go false false t h = t
+  passed : everywhere passing ≡ true → (k : Kind) (f : ℕ) → f < 16 → guard k f ≡ true → (i : ℕ) → getD (tests k f) i true ≡ true
+  passed e k f l h = each-getD (λ b. b) (tests k f) true refl (rw h at (every-place passing e k f l))
 
 -- a form, by its number; past the last field every form is Words
 isForm : Form → Form → Bool
@@ -68,7 +62,7 @@ fieldTests : Kind → ℕ → List Bool
 fieldTests k f = (leb f 0 || leb 1 (widthAt k f)) ∷ leb (beforeAt k f) f ∷ leb (f + afterAt k f) (fieldsOf k) ∷ []
 
 field-test : (k : Kind) (f : ℕ) → f ≤ fieldsOf k → (i : ℕ) → getD (fieldTests k f) i true ≡ true
-unfolding each flat row colAt widthAt beforeAt afterAt fieldTests
+unfolding everywhere each row colAt widthAt beforeAt afterAt fieldTests
 field-test k f l i = passed (λ j g. leb g (fieldsOf j)) fieldTests refl k f (omega (arith, sane k)) (le-leb f (fieldsOf k) l) i
 
 -- a sign is one byte; its number is next, with the same partners, and may be missing like it
@@ -78,14 +72,14 @@ signTests k f =
     ∷ eqb (afterAt k f) (suc (afterAt k (suc f))) ∷ eqb (pick (mustAt k (suc f)) 1 0) (pick (mustAt k f) 1 0) ∷ []
 
 sign-test : (k : Kind) (f : ℕ) → formAt k f ≡ Sign → (i : ℕ) → getD (signTests k f) i true ≡ true
-unfolding each flat row colAt formAt widthAt beforeAt afterAt mustAt isForm signTests
+unfolding everywhere each row colAt formAt widthAt beforeAt afterAt mustAt isForm signTests
 sign-test k f e i =
     let l = form-past k f Sign e (omega arith) in
     passed (λ j g. isForm (formAt j g) Sign) signTests refl k f (omega (arith, sane k)) (is-form (formAt k f) Sign e) i
 
 -- the field before a number of a coordinate is its sign
 pub size-before : (k : Kind) (f : ℕ) → formAt k (suc f) ≡ Size → formAt k f ≡ Sign
-unfolding each flat row colAt formAt isForm
+unfolding everywhere each row colAt formAt isForm
 size-before k f e =
     let l = form-past k (suc f) Size e (omega arith) in
     form-is (formAt k f) Sign (passed (λ j g. isForm (formAt j (suc g)) Size) (λ j g. isForm (formAt j g) Sign ∷ []) refl k f (omega (arith, sane k)) (is-form (formAt k (suc f)) Size e) 0)

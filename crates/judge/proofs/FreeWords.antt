@@ -22,13 +22,13 @@ use Rattle.record.specs.declared.kind.Which.{Which}
 use Rattle.record.specs.declared.kind.Which.the-variants.{NoFile, File}
 use Rattle.record.specs.declared.kind.Form.{Form}
 use Rattle.record.specs.declared.kind.Form.the-variants.{Words, Code, Tipo, Sense, Sign, Number, Size}
-use Rattle.record.specs.Table.{colAt, formAt, widthAt, mustAt, beforeAt, afterAt, offsetAt, fieldsOf, lengthOf, whichOf, formOf}
+use Rattle.record.specs.Table.{colAt, formAt, widthAt, mustAt, beforeAt, afterAt, offsetAt, fieldsOf, lengthOf, whichOf, codeOf, formOf}
 use Rattle.record.specs.Cut.{countOf, recordOf, textOf}
 use Rattle.record.specs.Rules.{breaks10, breaks11, breaks20, breaks21, notNumber, breaks22, breaks23, missingIn, partnersBlank, breaks24, outside, breaks25, twenties}
 use Rattle.record.specs.Breaks.{findingOf, atPlace, twentyReasons, recordBreaks, shapeFinding, fieldsFinding}
 use Rattle.record.specs.Table.{limit}
 use Rattle.record.specs.Says.{saidAs, saidIn}
-use Rattle.record.proofs.TableLaws.{every, kinds, codeOf, form-code}
+use Rattle.record.proofs.TableLaws.{every, kinds, form-code}
 use Rattle.record.proofs.CutLaws.{record-past, record-long}
 use Rattle.record.proofs.FindingLaws.{inFile, fields-is, shape-is}
 use Rattle.keys.specs.Delivery.{deliveryOf, isFreeWord}

@@ -1,25 +1,22 @@
--- The laws of the columns of specs/Table.antt, and the code's tables: each is the rows of 16 places of every kind, one after another.
+-- The laws of the columns of specs/Table.antt, and of the code's tables.
 -- Assumes nothing.
-use Prim.Native.Nat.{ℕ, zero, suc, _+_, _*_, _-_, _≤_, _<_}
+use Prim.Native.Nat.{ℕ, zero, suc, _+_, _-_, _≤_, _<_}
 use mathlib.Core.Bool.{Bool, true, false, _&&_, _||_, not}
-use mathlib.Core.List.{List, [], _∷_, _++_, map}
+use mathlib.Core.List.{List, [], _∷_, map}
 use mathlib.Core.Path.{_≡_, refl, sym, ap, subst, _∙_}
 use native.Mathlib.Nat.{le-of-suc-le-suc, not-suc-le-zero}
 use native.Mathlib.Omega.{arith}
 use lib.Dec.{leb, eqb}
-use lib.ListN.{length, getD, List·getD-append, List·getD-eq-default}
-use lib.Seq.{getD-append-add}
-use mir.Syntax.{w64}
-use mir.Val.{Fits}
-use borrow.Author.Tests.{leb-true}
+use lib.ListN.{length, getD, List·getD-eq-default}
+use borrow.Author.Tests.{leb-true, eqb-true}
 use Rattle.laws.specs.Row.{pick, row, each}
-use Rattle.laws.proofs.RowLaws.{and-true, length-row, row-at}
+use Rattle.laws.proofs.RowLaws.{and-true, length-row, row-at, each-at}
 use Rattle.record.specs.declared.kind.Kind.{Kind}
 use Rattle.record.specs.declared.kind.Kind.the-variants.{Catalogo, ObPun, ObTex, ObLin, Tramo, Vertice, Nodo}
 use Rattle.record.specs.declared.kind.Form.{Form}
 use Rattle.record.specs.declared.kind.Form.the-variants.{Words, Code, Tipo, Sense, Sign, Number, Size}
 use Rattle.record.specs.declared.kind.Which.the-variants.{NoFile, File}
-use Rattle.record.specs.Table.{Col, whole, cols, roomIn, roomOf, offsetIn, lengthIn, colAt, formAt, widthAt, offsetAt, fieldsOf, lengthOf, fileOf, whichOf, isN, formOf}
+use Rattle.record.specs.Table.{Col, whole, cols, roomIn, roomOf, offsetIn, lengthIn, colAt, formAt, widthAt, offsetAt, fieldsOf, lengthOf, fileOf, whichOf, isN, codeOf, formOf, packedOf, digitOf}
 
 -- A TABLE: a test of every element holds at every index, where it holds of the default
 pub each-getD : {A : Type 0} (p : A → Bool) (xs : List A) (d : A) → p d ≡ true → each p xs ≡ true → (i : ℕ) → p (getD xs i d) ≡ true
@@ -151,53 +148,25 @@ module _ (k : Kind) (f : ℕ) where
   unfolding offsetAt
   offset-end l = omega (arith, offset-past (cols k) f (omega arith))
 
--- THE CODE'S TABLES: of an attribute, the rows of 16 places of every kind
-abbrev pub rowsOf : (Kind → ℕ → ℕ) → List Kind → List ℕ
-rowsOf g [] = []
-rowsOf g (k ∷ ks) = row (g k) 16 ++ rowsOf g ks
+-- A TEST OF THE 16 PLACES of every kind, which is computed once, holds at each
+unfoldable pub everywhere : (Kind → ℕ → Bool) → Bool
+everywhere p = each (λ k. each (p k) (row (λ f. f) 16)) kinds
 
-unfoldable pub flat : (Kind → ℕ → ℕ) → List ℕ
-flat g = rowsOf g kinds
+pub every-place : (p : Kind → ℕ → Bool) → everywhere p ≡ true → (k : Kind) (f : ℕ) → f < 16 → p k f ≡ true
+unfolding everywhere
+every-place p e k f l =
+    ap (p k) (sym (row-at (λ g. g) 16 0 l)) ∙ each-at (p k) (row (λ g. g) 16) f 0 (every (λ j. each (p j) (row (λ g. g) 16)) e k) (rw length-row l)
 
-rows-at : (g : Kind → ℕ → ℕ) (ks : List Kind) (i f : ℕ) (d : Kind) → i < length ks → f < 16 → getD (rowsOf g ks) (i * 16 + f) 0 ≡ g (getD ks i d) f
-rows-at g [] i f d l h = absurd (not-suc-le-zero l)
-rows-at g (k ∷ ks) zero f d l h =
-    let e : 0 * 16 + f ≡ f = omega arith in
-    rw e (List·getD-append (row (g k) 16) (rowsOf g ks) 0 f (rw length-row h) ∙ row-at (g k) 16 0 h)
-rows-at g (k ∷ ks) (suc i) f d l h =
-    let e : suc i * 16 + f ≡ length (row (g k) 16) + (i * 16 + f) = rw length-row (omega arith) in
-    rw e (getD-append-add (row (g k) 16) (rowsOf g ks) (i * 16 + f) 0 ∙ rows-at g ks i f d (le-of-suc-le-suc l) h)
-
-abbrev pub isByte : ℕ → Bool
-isByte n = leb n 255
-
-module _ (g : Kind → ℕ → ℕ) (bytes : each isByte (flat g) ≡ true) where
-  pub read-small : (i : ℕ) → getD (flat g) i 0 < 256
-  read-small i = omega (arith, leb-true (getD (flat g) i 0) 255 (each-getD isByte (flat g) 0 refl bytes i))
-
-  pub read-fits : (i : ℕ) → Fits w64 (getD (flat g) i 0)
-  read-fits i = omega (arith, read-small i)
-
-  -- what the code reads at a place
-  pub read : (k : Kind) (f : ℕ) {i : ℕ} → i ≡ (fileOf k - 1) * 16 + f → f < 16 → (getD (flat g) i 0 ≡ g k f) × (getD (flat g) i 0 < 256)
-  unfolding flat
-  read k f {i} e l =
-      (rw e (rows-at g kinds (fileOf k - 1) f Catalogo (omega (arith, sane k)) l ∙ ap (λ (j : Kind). g j f) (kind-at k)), read-small i)
+-- THE CODE'S TABLES: what the code reads of a kind's number n at a place
+pub read : (g : List Col → ℕ → ℕ) → everywhere (λ k f. eqb (digitOf (packedOf g k) f) (g (cols k) f)) ≡ true
+    → (k : Kind) (f : ℕ) {n : ℕ} → n ≡ packedOf g k → f < 16 → digitOf n f ≡ g (cols k) f
+read g e k f q l = rw q (eqb-true _ _ (every-place (λ k f. eqb (digitOf (packedOf g k) f) (g (cols k) f)) e k f l))
 
 -- and past them
 pub past : {A : Type 0} (g : Col → A) (k : Kind) (f : ℕ) → 16 ≤ f → g whole ≡ g (colAt k f)
 past g k f l = ap g (sym (col-past k f (omega (arith, sane k))))
 
 -- the numbers of forms, and 1 for what must be
-abbrev pub codeOf : Form → ℕ
-codeOf Words = 0
-codeOf Code = 1
-codeOf Tipo = 2
-codeOf Sense = 3
-codeOf Sign = 4
-codeOf Number = 5
-codeOf Size = 6
-
 pub form-code : (x : Form) → formOf (codeOf x) ≡ x
 unfolding formOf
 form-code Words = refl

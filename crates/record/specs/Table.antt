@@ -1,7 +1,7 @@
 -- The seven files: their fields in order (document 01, "What the box receives" and "A lawful record").
 -- Each width stands here, once; offsets, lengths and numbers of fields are computed.
 -- Assumes nothing.
-use Prim.Native.Nat.{ℕ, zero, suc, _+_}
+use Prim.Native.Nat.{ℕ, zero, suc, _+_, _*_, _/_, _%_, _^_}
 use mathlib.Core.Bool.{Bool, true, false}
 use mathlib.Core.List.{List, [], _∷_}
 use lib.ListN.{length, getD}
@@ -181,6 +181,34 @@ isCode Sign = false
 isCode Number = false
 isCode Size = false
 
--- a form's number in the code's tables
+-- THE CODE'S TABLES. A form's number,
+abbrev pub codeOf : Form → ℕ
+codeOf Words = 0
+codeOf Code = 1
+codeOf Tipo = 2
+codeOf Sense = 3
+codeOf Sign = 4
+codeOf Number = 5
+codeOf Size = 6
+
 unfoldable pub formOf : ℕ → Form
 formOf n = getD (Words ∷ Code ∷ Tipo ∷ Sense ∷ Sign ∷ Number ∷ Size ∷ []) n Words
+
+-- of each kind one number for an attribute of its places, with a digit to the base 16 for each, place 0 the lowest
+abbrev pub packed : (ℕ → ℕ) → ℕ → ℕ
+packed g zero = 0
+packed g (suc n) = g 0 + 16 * packed (λ f. g (suc f)) n
+
+-- by cases, so that it computes where the kind is known and only there
+abbrev pub packedOf : (List Col → ℕ → ℕ) → Kind → ℕ
+packedOf g Catalogo = packed (g (cols Catalogo)) 16
+packedOf g ObPun = packed (g (cols ObPun)) 16
+packedOf g ObTex = packed (g (cols ObTex)) 16
+packedOf g ObLin = packed (g (cols ObLin)) 16
+packedOf g Tramo = packed (g (cols Tramo)) 16
+packedOf g Vertice = packed (g (cols Vertice)) 16
+packedOf g Nodo = packed (g (cols Nodo)) 16
+
+-- and the digit of a place
+abbrev pub digitOf : ℕ → ℕ → ℕ
+digitOf n f = n / 2 ^ (4 * f) % 16

@@ -1,13 +1,9 @@
 // The kinds of file: constants and functions of a kind.
-use crate::grid::AFTERS;
-use crate::grid::BEFORES;
-use crate::grid::FORMS;
-use crate::grid::MUSTS;
-use crate::grid::OFFSETS;
-use crate::grid::WIDTHS;
 ghost use mathlib.Core.Path.{_≡_};
-ghost use Prim.Native.Nat.{ℕ, _+_, _*_, _-_, _<_, _≤_};
-ghost use Rattle.record.specs.Table.{formAt, widthAt, mustAt, beforeAt, afterAt, offsetAt, fieldsOf, lengthOf, keysOf, fileOf, whichOf, isN, isCode, formOf};
+ghost use Prim.Native.Nat.{_/_, _%_, _<_};
+ghost use lib.ListN.{getD};
+ghost use Rattle.laws.specs.Row.{pick};
+ghost use Rattle.record.specs.Table.{whole, offsetIn, digitOf, packedOf, codeOf, formAt, widthAt, mustAt, beforeAt, afterAt, offsetAt, fieldsOf, lengthOf, keysOf, fileOf, whichOf, isN, isCode, formOf};
 
 pub enum Kind {
     Catalogo,
@@ -36,7 +32,15 @@ pub enum Form {
     Size,
 }
 
-fn form_of(n: u8) -> Form
+// The digit of a place in a kind's number.
+fn digit(n: u64, f: usize) -> usize
+    requires { ⌜ f < 16 ⌝ }
+    ensures { λ r. ⌜ r ≡ digitOf n f ⌝ }
+{
+    ((n >> (4 * f)) % 16) as usize
+}
+
+fn form_of(n: usize) -> Form
     ensures { λ r. ⌜ r ≡ formOf n ⌝ }
 {
     match n {
@@ -157,13 +161,123 @@ impl Kind {
         }
     }
 
-    // Where a place stands in the tables.
-    fn cell(self, f: usize) -> usize
-        requires { ⌜ f < 16 ⌝ }
-        ensures { λ r. ⌜ r ≡ (fileOf self - 1) * 16 + f ⌝ }
-        ensures within { λ r. ⌜ r < 112 ⌝ }
+    // The tables of fields: one number a kind, with four bits for each place, place 0 the lowest. (An array would be built anew at each
+    // read; a match on the kind is a table.) The numbers of the forms, as form_of has them,
+    fn forms(self) -> u64
+        ensures { λ r. ⌜ r ≡ packedOf (λ cs f. codeOf (getD cs f whole .form)) self ⌝ }
     {
-        (self.number() - 1) * 16 + f
+        match self {
+            Kind::Catalogo => 0x0000000000000210,
+            Kind::ObPun => 0x0064646455015550,
+            Kind::ObTex => 0x0646464555501550,
+            Kind::ObLin => 0x0000064646401550,
+            Kind::Tramo => 0x0000000355155550,
+            Kind::Vertice => 0x0000000646464550,
+            Kind::Nodo => 0x0000000646464050,
+        }
+    }
+
+    // the widths, by their two digits to the base 16,
+    fn widths_high(self) -> u64
+        ensures { λ r. ⌜ r ≡ packedOf (λ cs f. getD cs f whole .width / 16) self ⌝ }
+    {
+        match self {
+            Kind::Catalogo => 0x0000000000033000,
+            Kind::ObPun => 0x0000000000300000,
+            Kind::ObTex => 0x0000000000030000,
+            Kind::ObLin => 0x0000000000030000,
+            Kind::Tramo => 0x0000000000000000,
+            Kind::Vertice => 0x0000000000000000,
+            Kind::Nodo => 0x0000000000000000,
+        }
+    }
+
+    fn widths_low(self) -> u64
+        ensures { λ r. ⌜ r ≡ packedOf (λ cs f. getD cs f whole .width % 16) self ⌝ }
+    {
+        match self {
+            Kind::Catalogo => 0x00000000000cc170,
+            Kind::ObPun => 0x0081a19135c7aaa0,
+            Kind::ObTex => 0x081a1911533c7aa0,
+            Kind::ObLin => 0x0000081a191c7aa0,
+            Kind::Tramo => 0x00000001aa7aaaa0,
+            Kind::Vertice => 0x000000081a1915a0,
+            Kind::Nodo => 0x000000081a1911a0,
+        }
+    }
+
+    // where the places begin in the record,
+    fn offsets_high(self) -> u64
+        ensures { λ r. ⌜ r ≡ packedOf (λ cs f. offsetIn cs f / 16) self ⌝ }
+    {
+        match self {
+            Kind::Catalogo => 0x8888888888840000,
+            Kind::ObPun => 0x9988777766221000,
+            Kind::ObTex => 0x8887766665511000,
+            Kind::ObLin => 0x7777777665511000,
+            Kind::Tramo => 0x4444444433221000,
+            Kind::Vertice => 0x3333333221111000,
+            Kind::Nodo => 0x3333333221100000,
+        }
+    }
+
+    fn offsets_low(self) -> u64
+        ensures { λ r. ⌜ r ≡ packedOf (λ cs f. offsetIn cs f % 16) self ⌝ }
+    {
+        match self {
+            Kind::Catalogo => 0x444444444447a800,
+            Kind::ObPun => 0x44b9ec20c6916b00,
+            Kind::ObTex => 0xf6497db93fbe6b00,
+            Kind::ObLin => 0xfffff6497dbe6b00,
+            Kind::Tramo => 0xcccccccaf4c16b00,
+            Kind::Vertice => 0x5555555cafd31b00,
+            Kind::Nodo => 0x111111186b9fdb00,
+        }
+    }
+
+    // 1 where the place may not be missing,
+    fn musts(self) -> u64
+        ensures { λ r. ⌜ r ≡ packedOf (λ cs f. pick (getD cs f whole .must) 1 0) self ⌝ }
+    {
+        match self {
+            Kind::Catalogo => 0x0000000000000110,
+            Kind::ObPun => 0x0000111100010010,
+            Kind::ObTex => 0x0001111100101010,
+            Kind::ObLin => 0x0000000000001010,
+            Kind::Tramo => 0x0000000011100110,
+            Kind::Vertice => 0x0000000001111110,
+            Kind::Nodo => 0x0000000001111010,
+        }
+    }
+
+    // how many fields before the place are its partners,
+    fn befores(self) -> u64
+        ensures { λ r. ⌜ r ≡ packedOf (λ cs f. getD cs f whole .before) self ⌝ }
+    {
+        match self {
+            Kind::Catalogo => 0x0000000000000000,
+            Kind::ObPun => 0x0010101000000000,
+            Kind::ObTex => 0x0101010000000000,
+            Kind::ObLin => 0x0000010321000000,
+            Kind::Tramo => 0x0000000000000000,
+            Kind::Vertice => 0x0000000101010000,
+            Kind::Nodo => 0x0000000101010000,
+        }
+    }
+
+    // and how many after it.
+    fn afters(self) -> u64
+        ensures { λ r. ⌜ r ≡ packedOf (λ cs f. getD cs f whole .after) self ⌝ }
+    {
+        match self {
+            Kind::Catalogo => 0x0000000000000000,
+            Kind::ObPun => 0x0001010100000000,
+            Kind::ObTex => 0x0010101000000000,
+            Kind::ObLin => 0x0000001234500000,
+            Kind::Tramo => 0x0000000000000000,
+            Kind::Vertice => 0x0000000010101000,
+            Kind::Nodo => 0x0000000010101000,
+        }
     }
 
     // What a field holds; place 0 and those past the last field are texts of no bytes.
@@ -171,7 +285,7 @@ impl Kind {
         ensures { λ r. ⌜ r ≡ formAt self f ⌝ }
     {
         if f < 16 {
-            form_of(FORMS[self.cell(f)])
+            form_of(digit(self.forms(), f))
         } else {
             Form::Words
         }
@@ -183,7 +297,7 @@ impl Kind {
         ensures small { λ r. ⌜ r < 256 ⌝ }
     {
         if f < 16 {
-            WIDTHS[self.cell(f)] as usize
+            digit(self.widths_high(), f) * 16 + digit(self.widths_low(), f)
         } else {
             0
         }
@@ -195,7 +309,7 @@ impl Kind {
         ensures small { λ r. ⌜ r < 256 ⌝ }
     {
         if f < 16 {
-            OFFSETS[self.cell(f)] as usize
+            digit(self.offsets_high(), f) * 16 + digit(self.offsets_low(), f)
         } else {
             self.length() - 1
         }
@@ -206,7 +320,7 @@ impl Kind {
         ensures { λ r. ⌜ r ≡ mustAt self f ⌝ }
     {
         if f < 16 {
-            MUSTS[self.cell(f)] == 1
+            digit(self.musts(), f) == 1
         } else {
             false
         }
@@ -217,11 +331,7 @@ impl Kind {
         ensures { λ r. ⌜ r ≡ beforeAt self f ⌝ }
         ensures small { λ r. ⌜ r < 256 ⌝ }
     {
-        if f < 16 {
-            BEFORES[self.cell(f)] as usize
-        } else {
-            0
-        }
+        if f < 16 { digit(self.befores(), f) } else { 0 }
     }
 
     // and how many after it.
@@ -229,10 +339,6 @@ impl Kind {
         ensures { λ r. ⌜ r ≡ afterAt self f ⌝ }
         ensures small { λ r. ⌜ r < 256 ⌝ }
     {
-        if f < 16 {
-            AFTERS[self.cell(f)] as usize
-        } else {
-            0
-        }
+        if f < 16 { digit(self.afters(), f) } else { 0 }
     }
 }

@@ -3,7 +3,6 @@
 pub mod check;
 pub mod columns;
 pub mod cut;
-mod grid;
 pub mod kind;
 pub mod reason;
 mod rules;
