@@ -1,3 +1,4 @@
 pub mod OrderLaws
 pub mod TwiceLaws
 pub mod LookLaws
+pub mod RadixLaws
