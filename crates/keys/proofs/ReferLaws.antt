@@ -3,12 +3,14 @@
 use Prim.Native.Nat.{ℕ, _<_, _≤_}
 use mathlib.Core.Bool.{Bool, true, false, not}
 use mathlib.Core.List.{List}
-use mathlib.Core.Path.{_≡_, ap, _∙_}
+use mathlib.Core.Option.{none}
+use mathlib.Core.Path.{_≡_, sym, ap, _∙_}
 use native.Mathlib.Omega.{arith}
+use native.Mathlib.Decide.{ℕ-discrete}
 use lib.ListN.{length, getD}
 use borrow.Author.Tests.{eq-eqb, ne-eqb}
 use Rattle.laws.specs.Find.{firstIndex, names}
-use Rattle.laws.proofs.FindLaws.{index-same, any-same, any-true}
+use Rattle.laws.proofs.FindLaws.{index-same, index-none, any-same, any-true}
 use Rattle.index.specs.Keys.{listed}
 use Rattle.index.specs.Look.{Sought}
 use Rattle.index.specs.declared.Found.{Found}
@@ -30,6 +32,15 @@ module _ (key : ℕ → ℕ) (n x : ℕ) where
   unfolding dangles
   dangles-named h e = rw (ne-eqb x 0 h, ← e)
 
+-- names that are missing or known: none dangles
+none-dangles : (key : ℕ → ℕ) (n : ℕ) (refs : List ℕ) (m : ℕ) → ((i : ℕ) → i < m → (getD refs i 0 ≡ 0 → ⊥) → names key n (getD refs i 0) ≡ true)
+    → firstIndex (λ i. dangles key n (getD refs i 0)) m ≡ none
+none-dangles key n refs m known = index-none _ m (λ i l. go i l (ℕ-discrete (getD refs i 0) 0))
+  where
+    go : (i : ℕ) → i < m → Dec (getD refs i 0 ≡ 0) → dangles key n (getD refs i 0) ≡ false
+    go i l (yes e) = dangles-missing key n (getD refs i 0) e
+    go i l (no h) = dangles-named key n (getD refs i 0) h (sym (known i l h))
+
 -- A COLUMN in an array: a search reads the array as the column
 module _ {l : List ℕ} {key : ℕ → ℕ} {m n : ℕ} (fills : Fills l key m n) where
   pub index-filled : (p q : ℕ → Bool) → ((x : ℕ) → p x ≡ q x) → firstIndex (λ i. p (getD l i 0)) n ≡ firstIndex (λ i. q (key i)) m
@@ -45,6 +56,13 @@ module _ {l : List ℕ} {key : ℕ → ℕ} {m n : ℕ} (fills : Fills l key m n
   pub dangles-filled : (x : ℕ) → dangles (listed l) n x ≡ dangles key m x
   unfolding dangles
   dangles-filled x = rw (names-column x)
+
+-- names and keys in arrays: where each name is missing or known, none of the column dangles
+pub none-dangles-filled :
+    {refs keys : List ℕ} {column key : ℕ → ℕ} {a b m n : ℕ} → Fills refs column a m → Fills keys key b n
+    → ((i : ℕ) → i < m → (getD refs i 0 ≡ 0 → ⊥) → names (listed keys) n (getD refs i 0) ≡ true) → firstIndex (λ i. dangles key b (column i)) a ≡ none
+none-dangles-filled {refs} {keys} {m = m} {n} names-in keys-in known =
+    sym (index-filled names-in _ _ (dangles-filled keys-in)) ∙ none-dangles (listed keys) n refs m known
 
 -- A CODE of another type than the one wanted, where f is what a look-up of the code says
 module _ (cat : Table) {keys : List ℕ} {n : ℕ} (fills : Fills keys (λ j. nameAt Catalogo cat j 1) (cat .count) n) (wanted x : ℕ) {f : Found} (s : Sought keys n x f) where

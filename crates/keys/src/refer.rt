@@ -2,7 +2,9 @@
 use crate::column::fill_names;
 use crate::names::name;
 use index::Found;
-use index::look::find;
+use index::hint::all_present_in;
+use index::hint::fill_hints;
+use index::hint::find_hinted;
 use index::look::has;
 use index::order::sort;
 use record::columns::letter;
@@ -60,7 +62,7 @@ fn first_unknown<'a>(
     Found::Nothing
 }
 
-// The first record of s whose field f names no record of to by its field g.
+// The first record of s whose field f names no record of to by its field g. Where hints show every name, nothing is sorted.
 pub fn first_dangling<'a>(
     s: &'a [u8],
     k: Kind,
@@ -75,6 +77,9 @@ pub fn first_dangling<'a>(
     let m = fill_names(s, k, f, &mut refs);
     let mut keys = [0u64; 16384];
     let n = fill_names(to, other, g, &mut keys);
+    if all_present_in(&refs, m, &keys, n) {
+        return Found::Nothing;
+    }
     let mut order = [0usize; 16384];
     if sort(&keys, &mut order, n) {
         first_unknown(&refs, m, &keys, &order, n)
@@ -103,6 +108,7 @@ fn is_mistyped<'a>(
     cat: &'a [u8],
     keys: &'a [u64],
     order: &'a [usize],
+    hints: &'a [u16],
     n: usize,
     x: u64,
     wanted: u8,
@@ -110,7 +116,7 @@ fn is_mistyped<'a>(
     requires { ⌜ Index (now keys) (now order) n × Fills (now keys) (λ j. nameAt Kind.Catalogo (tableOf (now cat) Kind.Catalogo) j 1) (tableOf (now cat) Kind.Catalogo .count) n ⌝ }
     ensures { λ r. ⌜ r ≡ mistyped wanted (tableOf (now (cat .entry)) Kind.Catalogo) x ⌝ }
 {
-    let found = find(keys, order, n, x);
+    let found = find_hinted(keys, order, hints, n, x);
     match found {
         Found::Nothing => false,
         Found::At(j) => {
@@ -129,6 +135,7 @@ fn first_mistyped_in<'a>(
     cat: &'a [u8],
     keys: &'a [u64],
     order: &'a [usize],
+    hints: &'a [u16],
     n: usize,
     wanted: u8,
 ) -> Found
@@ -137,7 +144,7 @@ fn first_mistyped_in<'a>(
 {
     let mut i = 0;
     while i < m {
-        if is_mistyped(cat, keys, order, n, refs[i], wanted) {
+        if is_mistyped(cat, keys, order, hints, n, refs[i], wanted) {
             return Found::At(i);
         }
         i += 1;
@@ -155,7 +162,9 @@ pub fn first_mistyped<'a>(s: &'a [u8], k: Kind, f: usize, cat: &'a [u8], wanted:
     let n = fill_names(cat, Kind::Catalogo, 1, &mut keys);
     let mut order = [0usize; 16384];
     if sort(&keys, &mut order, n) {
-        first_mistyped_in(&refs, m, cat, &keys, &order, n, wanted)
+        let mut hints = [0u16; 32768];
+        fill_hints(&keys, &mut hints, n);
+        first_mistyped_in(&refs, m, cat, &keys, &order, &hints, n, wanted)
     } else {
         Found::Nothing
     }

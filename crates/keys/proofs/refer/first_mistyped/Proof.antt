@@ -31,6 +31,15 @@ slice-aggregate-sort-2 c = search needs
 sort-requires : tie.Need-sort-requires
 sort-requires c κs = search needs
 
+slice-aggregate-fill-hints : tie.Need-slice-aggregate-fill-hints
+slice-aggregate-fill-hints c = search needs
+
+slice-aggregate-fill-hints-2 : tie.Need-slice-aggregate-fill-hints-2
+slice-aggregate-fill-hints-2 c = search needs
+
+fill-hints-requires : tie.Need-fill-hints-requires
+fill-hints-requires c κs = search needs
+
 slice-aggregate-first-mistyped-in : tie.Need-slice-aggregate-first-mistyped-in
 slice-aggregate-first-mistyped-in c = search needs
 
@@ -40,11 +49,21 @@ slice-aggregate-first-mistyped-in-2 c = search needs
 slice-aggregate-first-mistyped-in-3 : tie.Need-slice-aggregate-first-mistyped-in-3
 slice-aggregate-first-mistyped-in-3 c = search needs
 
+slice-aggregate-first-mistyped-in-4 : tie.Need-slice-aggregate-first-mistyped-in-4
+slice-aggregate-first-mistyped-in-4 c = search needs
+
 first-mistyped-in-requires : tie.Need-first-mistyped-in-requires
-first-mistyped-in-requires c κs = (fills-room (read-fills (search needs) (c .before .before .before .before .before .before .before .before .before .before .before .before .fill-names .ensures)), c .before .before .before .before .before .sort .ensures .index (c .before .before .before .if1 .taken), read-fills (search needs) (c .before .before .before .before .before .before .before .before .before .fill-names2 .ensures))
+first-mistyped-in-requires c κs =
+    let s = c .before .before .before .before .before .before .before .before .before .before in (
+      fills-room (read-fills (search needs) (s .before .before .before .before .before .before .before .fill-names .ensures)),
+      s .sort .ensures .index (c .before .before .before .before .before .before .before .before .if1 .taken),
+      read-fills (search needs) (s .before .before .before .before .fill-names2 .ensures),
+    )
 
 returns : tie.Need-returns
-returns c = c .first-mistyped-in .ensures ∙ ap foundOf (index-filled (read-fills (search needs) (c .before .before .before .before .before .before .before .before .before .before .before .before .before .fill-names .ensures)) (mistyped _ _) (mistyped _ _) (λ x. refl))
+returns c =
+    c .first-mistyped-in .ensures
+    ∙ ap foundOf (index-filled (read-fills (search needs) (c .before .before .before .before .before .before .before .before .before .before .before .before .before .before .before .before .before .before .fill-names .ensures)) (mistyped _ _) (mistyped _ _) (λ x. refl))
 
 returns-2 : tie.Need-returns-2
 returns-2 c =
@@ -62,9 +81,13 @@ first-mistyped-spec =
     slice-aggregate-sort
     slice-aggregate-sort-2
     sort-requires
+    slice-aggregate-fill-hints
+    slice-aggregate-fill-hints-2
+    fill-hints-requires
     slice-aggregate-first-mistyped-in
     slice-aggregate-first-mistyped-in-2
     slice-aggregate-first-mistyped-in-3
+    slice-aggregate-first-mistyped-in-4
     first-mistyped-in-requires
     returns
     returns-2)

@@ -12,10 +12,10 @@ use Rattle.keys.proofs.refer.first_mistyped_in.Statement.{statement}
 use Rattle.keys.proofs.refer.first_mistyped_in.Tie as tie
 
 abbrev Inv-loop : tie.InvT-loop
-Inv-loop refs m cat keys order n wanted i₀ i = Passed (λ i. mistyped wanted (tableOf cat Catalogo) (getD refs i 0)) m i
+Inv-loop refs m cat keys order hints n wanted i₀ i = Passed (λ i. mistyped wanted (tableOf cat Catalogo) (getD refs i 0)) m i
 
 abbrev μ-loop : tie.MeasureT-loop
-μ-loop refs m cat keys order n wanted i₀ i = m - i
+μ-loop refs m cat keys order hints n wanted i₀ i = m - i
 
 loop-holds : tie.Need-loop-holds Inv-loop μ-loop
 loop-holds c = found-start _ _

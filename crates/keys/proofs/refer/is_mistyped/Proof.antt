@@ -6,8 +6,8 @@ use borrow.Author.Needs.{needs}
 use Rattle.keys.proofs.refer.is_mistyped.Statement.{statement}
 use Rattle.keys.proofs.refer.is_mistyped.Tie as tie
 
-find-requires : tie.Need-find-requires
-find-requires c κs = search needs
+find-hinted-requires : tie.Need-find-hinted-requires
+find-hinted-requires c κs = search needs
 
 enum-told : tie.Need-enum-told
 enum-told c = search needs
@@ -20,8 +20,8 @@ letter-requires c κs = search needs
 
 returns : tie.Need-returns
 returns c =
-    mistyped-typed _ (c .before .before .before .before .before .before .before .before .before .pre .1) _ _
-    (c .before .before .before .before .before .find .ensures) (c .before .before .before .found .given .1)
+    mistyped-typed _ (c .before .before .before .before .before .before .before .before .before .before .pre .1) _ _
+    (c .before .before .before .before .before .find-hinted .ensures) (c .before .before .before .found .given .1)
     (sym (c .before .letter .ensures) ∙ c .if1 .taken)
 
 typed-requires : tie.Need-typed-requires
@@ -29,17 +29,17 @@ typed-requires c κs = search needs
 
 returns-2 : tie.Need-returns-2
 returns-2 c =
-    mistyped-none _ (c .before .before .before .before .before .before .pre .1) _ _
-    (c .before .before .find .ensures) (c .enum-told .given .1)
+    mistyped-none _ (c .before .before .before .before .before .before .before .pre .1) _ _
+    (c .before .before .find-hinted .ensures) (c .enum-told .given .1)
 
 returns-3 : tie.Need-returns-3
-returns-3 c = rw (mistyped-found _ (c .before .before .before .before .before .before .before .before .before .before .pre .1) _ _ (c .before .before .before .before .before .before .find .ensures) (c .before .before .before .before .found .given .1), c .typed .ensures)
+returns-3 c = rw (mistyped-found _ (c .before .before .before .before .before .before .before .before .before .before .before .pre .1) _ _ (c .before .before .before .before .before .before .find-hinted .ensures) (c .before .before .before .before .found .given .1), c .typed .ensures)
 
 pub is-mistyped-spec : {M : Type 1} → statement M
 is-mistyped-spec =
     tie.close
     (tie.spec
-    find-requires
+    find-hinted-requires
     enum-told
     enum-known-found
     letter-requires
