@@ -4,7 +4,8 @@ use crate::places::scan_node;
 use crate::places::x_at;
 use crate::places::y_at;
 use index::Found;
-use index::look::find;
+use index::hint::fill_hints;
+use index::hint::find_hinted;
 use index::look::highest_in;
 use index::order::sort;
 use keys::column::fill_keys;
@@ -56,10 +57,12 @@ fn is_elsewhere<'a>(
     vertice: &'a [u8],
     keys: &'a [u64],
     order: &'a [usize],
+    vertices: &'a [u16],
     n: usize,
     nodo: &'a [u8],
     ids: &'a [u64],
     ranks: &'a [usize],
+    nodes: &'a [u16],
     m: usize,
     key: u64,
     wanted: u64,
@@ -67,13 +70,13 @@ fn is_elsewhere<'a>(
     requires { ⌜ Index (now keys) (now order) n × Fills (now keys) (keyOf Kind.Vertice (tableOf (now vertice) Kind.Vertice)) (tableOf (now vertice) Kind.Vertice .count) n × Index (now ids) (now ranks) m × Fills (now ids) (λ j. nameAt Kind.Nodo (tableOf (now nodo) Kind.Nodo) j 1) (tableOf (now nodo) Kind.Nodo .count) m ⌝ }
     ensures { λ r. ⌜ r ≡ elsewhere (deliveryOf (filesOf [] [] [] [] [] (now (vertice .entry)) (now (nodo .entry)))) key wanted ⌝ }
 {
-    let found = find(keys, order, n, key);
+    let found = find_hinted(keys, order, vertices, n, key);
     match found {
         Found::Nothing => false,
         Found::At(j) => {
             let x = x_at(vertice, Kind::Vertice, j);
             let y = y_at(vertice, Kind::Vertice, j);
-            if node_at(nodo, ids, ranks, m, wanted, x, y) {
+            if node_at(nodo, ids, ranks, nodes, m, wanted, x, y) {
                 return false;
             }
             !scan_meets(vertice, nodo, key, wanted)
@@ -130,10 +133,12 @@ fn first_apart<'a>(
     vertice: &'a [u8],
     keys: &'a [u64],
     order: &'a [usize],
+    vertices: &'a [u16],
     n: usize,
     nodo: &'a [u8],
     ids: &'a [u64],
     ranks: &'a [usize],
+    nodes: &'a [u16],
     m: usize,
 ) -> Found
     requires { ⌜ Index (now keys) (now order) n × Fills (now keys) (keyOf Kind.Vertice (tableOf (now vertice) Kind.Vertice)) (tableOf (now vertice) Kind.Vertice .count) n × Index (now ids) (now ranks) m × Fills (now ids) (λ j. nameAt Kind.Nodo (tableOf (now nodo) Kind.Nodo) j 1) (tableOf (now nodo) Kind.Nodo .count) m ⌝ }
@@ -145,7 +150,20 @@ fn first_apart<'a>(
         let line = name(tramo, Kind::Tramo, i, 4);
         let key = end.key(keys, order, n, line);
         let wanted = name(tramo, Kind::Tramo, i, end.field());
-        if is_elsewhere(vertice, keys, order, n, nodo, ids, ranks, m, key, wanted) {
+        if is_elsewhere(
+            vertice,
+            keys,
+            order,
+            vertices,
+            n,
+            nodo,
+            ids,
+            ranks,
+            nodes,
+            m,
+            key,
+            wanted,
+        ) {
             return Found::At(i);
         }
         i += 1;
@@ -169,7 +187,24 @@ pub(crate) fn first_elsewhere<'a>(
     let m = fill_names(nodo, Kind::Nodo, 1, &mut ids);
     let mut ranks = [0usize; 16384];
     if sort(&keys, &mut order, n) & sort(&ids, &mut ranks, m) {
-        first_apart(end, tramo, vertice, &keys, &order, n, nodo, &ids, &ranks, m)
+        let mut vertices = [0u16; 32768];
+        fill_hints(&keys, &mut vertices, n);
+        let mut nodes = [0u16; 32768];
+        fill_hints(&ids, &mut nodes, m);
+        first_apart(
+            end,
+            tramo,
+            vertice,
+            &keys,
+            &order,
+            &vertices,
+            n,
+            nodo,
+            &ids,
+            &ranks,
+            &nodes,
+            m,
+        )
     } else {
         Found::Nothing
     }
@@ -211,6 +246,7 @@ fn first_astray_in<'a>(
     nodo: &'a [u8],
     ids: &'a [u64],
     ranks: &'a [usize],
+    nodes: &'a [u16],
     m: usize,
 ) -> Found
     requires { ⌜ Index (now ids) (now ranks) m × Fills (now ids) (λ j. nameAt Kind.Nodo (tableOf (now nodo) Kind.Nodo) j 1) (tableOf (now nodo) Kind.Nodo .count) m ⌝ }
@@ -223,7 +259,7 @@ fn first_astray_in<'a>(
         if wanted != 0 {
             let x = x_at(ob_pun, Kind::ObPun, i);
             let y = y_at(ob_pun, Kind::ObPun, i);
-            if !node_at(nodo, ids, ranks, m, wanted, x, y) {
+            if !node_at(nodo, ids, ranks, nodes, m, wanted, x, y) {
                 return Found::At(i);
             }
         }
@@ -240,7 +276,9 @@ pub(crate) fn first_astray<'a>(ob_pun: &'a [u8], nodo: &'a [u8]) -> Found
     let m = fill_names(nodo, Kind::Nodo, 1, &mut ids);
     let mut ranks = [0usize; 16384];
     if sort(&ids, &mut ranks, m) {
-        first_astray_in(ob_pun, nodo, &ids, &ranks, m)
+        let mut nodes = [0u16; 32768];
+        fill_hints(&ids, &mut nodes, m);
+        first_astray_in(ob_pun, nodo, &ids, &ranks, &nodes, m)
     } else {
         Found::Nothing
     }

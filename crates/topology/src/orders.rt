@@ -1,6 +1,7 @@
 // Vertex numbering: reasons 50 and 51. Only the order number counts, never the place in the file.
 use index::Found;
-use index::look::has;
+use index::hint::fill_hints;
+use index::hint::has_hinted;
 use index::order::sort;
 use keys::column::fill_keys;
 use record::kind::Kind;
@@ -15,7 +16,7 @@ ghost use Rattle.keys.specs.Delivery.{keyOf};
 ghost use Rattle.topology.specs.Rules.{gap, alone};
 
 // 50, of a vertex.
-fn is_gap(keys: &[u64], order: &[usize], n: usize, i: usize) -> bool
+fn is_gap<'a>(keys: &'a [u64], order: &'a [usize], hints: &'a [u16], n: usize, i: usize) -> bool
     requires { ⌜ Index (now keys) (now order) n × (i < n) ⌝ }
     ensures { λ r. ⌜ r ≡ gap (listed (now (keys .entry))) n i ⌝ }
 {
@@ -24,30 +25,30 @@ fn is_gap(keys: &[u64], order: &[usize], n: usize, i: usize) -> bool
         return true;
     }
     if 1 < x % 100000 {
-        return !has(keys, order, n, x - 1);
+        return !has_hinted(keys, order, hints, n, x - 1);
     }
     false
 }
 
 // 51, of a vertex.
-fn is_alone(keys: &[u64], order: &[usize], n: usize, i: usize) -> bool
+fn is_alone<'a>(keys: &'a [u64], order: &'a [usize], hints: &'a [u16], n: usize, i: usize) -> bool
     requires { ⌜ Index (now keys) (now order) n × (i < n) ⌝ }
     ensures { λ r. ⌜ r ≡ alone (listed (now (keys .entry))) n i ⌝ }
 {
     let x = keys[i];
     if x % 100000 == 1 {
-        return !has(keys, order, n, x + 1);
+        return !has_hinted(keys, order, hints, n, x + 1);
     }
     false
 }
 
-fn first_gap_in(keys: &[u64], order: &[usize], n: usize) -> Found
+fn first_gap_in<'a>(keys: &'a [u64], order: &'a [usize], hints: &'a [u16], n: usize) -> Found
     requires { ⌜ Index (now keys) (now order) n ⌝ }
     ensures { λ r. ⌜ r ≡ foundOf (firstIndex (gap (listed (now (keys .entry))) n) n) ⌝ }
 {
     let mut i = 0;
     while i < n {
-        if is_gap(keys, order, n, i) {
+        if is_gap(keys, order, hints, n, i) {
             return Found::At(i);
         }
         i += 1;
@@ -55,13 +56,13 @@ fn first_gap_in(keys: &[u64], order: &[usize], n: usize) -> Found
     Found::Nothing
 }
 
-fn first_alone_in(keys: &[u64], order: &[usize], n: usize) -> Found
+fn first_alone_in<'a>(keys: &'a [u64], order: &'a [usize], hints: &'a [u16], n: usize) -> Found
     requires { ⌜ Index (now keys) (now order) n ⌝ }
     ensures { λ r. ⌜ r ≡ foundOf (firstIndex (alone (listed (now (keys .entry))) n) n) ⌝ }
 {
     let mut i = 0;
     while i < n {
-        if is_alone(keys, order, n, i) {
+        if is_alone(keys, order, hints, n, i) {
             return Found::At(i);
         }
         i += 1;
@@ -77,7 +78,9 @@ pub(crate) fn first_gap(vertice: &[u8]) -> Found
     let n = fill_keys(vertice, Kind::Vertice, &mut keys);
     let mut order = [0usize; 16384];
     if sort(&keys, &mut order, n) {
-        first_gap_in(&keys, &order, n)
+        let mut hints = [0u16; 32768];
+        fill_hints(&keys, &mut hints, n);
+        first_gap_in(&keys, &order, &hints, n)
     } else {
         Found::Nothing
     }
@@ -91,7 +94,9 @@ pub(crate) fn first_alone(vertice: &[u8]) -> Found
     let n = fill_keys(vertice, Kind::Vertice, &mut keys);
     let mut order = [0usize; 16384];
     if sort(&keys, &mut order, n) {
-        first_alone_in(&keys, &order, n)
+        let mut hints = [0u16; 32768];
+        fill_hints(&keys, &mut hints, n);
+        first_alone_in(&keys, &order, &hints, n)
     } else {
         Found::Nothing
     }

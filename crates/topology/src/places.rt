@@ -1,5 +1,6 @@
 // Places in X and Y, and look-ups of them.
 use index::Found;
+use index::hint::find_hinted;
 use keys::names::name;
 use record::columns::place;
 use record::columns::rows;
@@ -95,6 +96,7 @@ pub(crate) fn node_at<'a>(
     nodo: &'a [u8],
     ids: &'a [u64],
     order: &'a [usize],
+    hints: &'a [u16],
     n: usize,
     wanted: u64,
     x: u64,
@@ -103,7 +105,7 @@ pub(crate) fn node_at<'a>(
     requires { ⌜ Index (now ids) (now order) n × Fills (now ids) (λ j. nameAt Kind.Nodo (tableOf (now nodo) Kind.Nodo) j 1) (tableOf (now nodo) Kind.Nodo .count) n ⌝ }
     ensures { λ r. ⌜ r ≡ nodeIn (tableOf (now (nodo .entry)) Kind.Nodo) wanted x y ⌝ }
 {
-    let found = index::look::find(ids, order, n, wanted);
+    let found = find_hinted(ids, order, hints, n, wanted);
     match found {
         Found::Nothing => false,
         Found::At(j) => {

@@ -11,10 +11,10 @@ use Rattle.topology.proofs.ends.first_apart.Statement.{statement}
 use Rattle.topology.proofs.ends.first_apart.Tie as tie
 
 abbrev Inv-loop : tie.InvT-loop
-Inv-loop end tramo vertice keys order n nodo ids ranks m t i₀ i = Passed (apart end (endFiles tramo vertice nodo)) t i
+Inv-loop end tramo vertice keys order vertices n nodo ids ranks nodes m t i₀ i = Passed (apart end (endFiles tramo vertice nodo)) t i
 
 abbrev μ-loop : tie.MeasureT-loop
-μ-loop end tramo vertice keys order n nodo ids ranks m t i₀ i = t - i
+μ-loop end tramo vertice keys order vertices n nodo ids ranks nodes m t i₀ i = t - i
 
 rows-requires : tie.Need-rows-requires Inv-loop μ-loop
 rows-requires c κs = search needs
@@ -26,7 +26,7 @@ name-requires : tie.Need-name-requires Inv-loop μ-loop
 name-requires c κs = search needs
 
 key-requires : tie.Need-key-requires Inv-loop μ-loop
-key-requires c κs = (c .before .before .before .before .before .before .before .before .before .before .before .pre .0, line-narrow (c .name .ensures .1))
+key-requires c κs = (c .before .before .before .before .before .before .before .before .before .before .before .before .before .pre .0, line-narrow (c .name .ensures .1))
 
 field-requires : tie.Need-field-requires Inv-loop μ-loop
 field-requires c κs = search needs
@@ -40,7 +40,7 @@ is-elsewhere-requires c κs = search needs
 returns : tie.Need-returns Inv-loop μ-loop
 unfolding meets
 returns c =
-    let s = c .before .before .before .before .before .before .before .before .before .before .before .before .before .before .before .before in
+    let s = c .before .before .before .before .before .before .before .before .before .before .before .before .before .before .before .before .before .before in
     found-here (c .before .before .before .before .before .before .before .loop .inv) (c .before .before .before .before .before .before .before .before .rows .ensures .0) (c .before .before .before .before .before .before .loop-test .taken)
     (apart-said (s .args .end) (endFiles (s .args .tramo .now) (s .args .vertice .now) (s .args .nodo .now)) (s .pre .1) _
     (c .before .before .before .before .before .name .ensures .0) (c .before .before .before .before .key .ensures) (c .before .before .before .field .ensures .0) (c .before .before .name2 .ensures .0)
@@ -56,7 +56,7 @@ loop-less c = search needs
 loop-again : tie.Need-loop-again Inv-loop μ-loop
 unfolding meets
 loop-again c =
-    let s = c .before .before .before .before .before .before .before .before .before .before .before .before .before .before .before .before in
+    let s = c .before .before .before .before .before .before .before .before .before .before .before .before .before .before .before .before .before .before in
     found-more (c .before .before .before .before .before .before .before .loop .inv) (c .before .before .before .before .before .before .loop-test .taken)
     (apart-said (s .args .end) (endFiles (s .args .tramo .now) (s .args .vertice .now) (s .args .nodo .now)) (s .pre .1) _
     (c .before .before .before .before .before .name .ensures .0) (c .before .before .before .before .key .ensures) (c .before .before .before .field .ensures .0) (c .before .before .name2 .ensures .0)

@@ -22,14 +22,26 @@ slice-aggregate-sort-2 c = search needs
 sort-requires : tie.Need-sort-requires
 sort-requires c κs = search needs
 
+slice-aggregate-fill-hints : tie.Need-slice-aggregate-fill-hints
+slice-aggregate-fill-hints c = search needs
+
+slice-aggregate-fill-hints-2 : tie.Need-slice-aggregate-fill-hints-2
+slice-aggregate-fill-hints-2 c = search needs
+
+fill-hints-requires : tie.Need-fill-hints-requires
+fill-hints-requires c κs = search needs
+
 slice-aggregate-first-astray-in : tie.Need-slice-aggregate-first-astray-in
 slice-aggregate-first-astray-in c = search needs
 
 slice-aggregate-first-astray-in-2 : tie.Need-slice-aggregate-first-astray-in-2
 slice-aggregate-first-astray-in-2 c = search needs
 
+slice-aggregate-first-astray-in-3 : tie.Need-slice-aggregate-first-astray-in-3
+slice-aggregate-first-astray-in-3 c = search needs
+
 first-astray-in-requires : tie.Need-first-astray-in-requires
-first-astray-in-requires c κs = (c .before .before .before .before .sort .ensures .index (c .before .before .if1 .taken), read-fills (search needs) (c .before .before .before .before .before .before .before .before .fill-names .ensures))
+first-astray-in-requires c κs = (c .before .before .before .before .before .before .before .before .before .sort .ensures .index (c .before .before .before .before .before .before .before .if1 .taken), read-fills (search needs) (c .before .before .before .before .before .before .before .before .before .before .before .before .before .fill-names .ensures))
 
 returns : tie.Need-returns
 returns c = search needs
@@ -48,8 +60,12 @@ first-astray-spec =
     slice-aggregate-sort
     slice-aggregate-sort-2
     sort-requires
+    slice-aggregate-fill-hints
+    slice-aggregate-fill-hints-2
+    fill-hints-requires
     slice-aggregate-first-astray-in
     slice-aggregate-first-astray-in-2
+    slice-aggregate-first-astray-in-3
     first-astray-in-requires
     returns
     returns-2)

@@ -13,10 +13,10 @@ use Rattle.topology.proofs.ends.first_astray_in.Statement.{statement}
 use Rattle.topology.proofs.ends.first_astray_in.Tie as tie
 
 abbrev Inv-loop : tie.InvT-loop
-Inv-loop ob-pun nodo ids ranks m n i₀ i = Passed (pointElsewhere (deliveryOf (filesOf [] ob-pun [] [] [] [] nodo))) n i
+Inv-loop ob-pun nodo ids ranks nodes m n i₀ i = Passed (pointElsewhere (deliveryOf (filesOf [] ob-pun [] [] [] [] nodo))) n i
 
 abbrev μ-loop : tie.MeasureT-loop
-μ-loop ob-pun nodo ids ranks m n i₀ i = n - i
+μ-loop ob-pun nodo ids ranks nodes m n i₀ i = n - i
 
 rows-requires : tie.Need-rows-requires Inv-loop μ-loop
 rows-requires c κs = search needs

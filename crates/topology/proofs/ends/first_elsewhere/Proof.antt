@@ -38,6 +38,24 @@ slice-aggregate-sort-4 c = search needs
 sort-requires-2 : tie.Need-sort-requires-2
 sort-requires-2 c κs = search needs
 
+slice-aggregate-fill-hints : tie.Need-slice-aggregate-fill-hints
+slice-aggregate-fill-hints c = search needs
+
+slice-aggregate-fill-hints-2 : tie.Need-slice-aggregate-fill-hints-2
+slice-aggregate-fill-hints-2 c = search needs
+
+fill-hints-requires : tie.Need-fill-hints-requires
+fill-hints-requires c κs = search needs
+
+slice-aggregate-fill-hints-3 : tie.Need-slice-aggregate-fill-hints-3
+slice-aggregate-fill-hints-3 c = search needs
+
+slice-aggregate-fill-hints-4 : tie.Need-slice-aggregate-fill-hints-4
+slice-aggregate-fill-hints-4 c = search needs
+
+fill-hints-requires-2 : tie.Need-fill-hints-requires-2
+fill-hints-requires-2 c κs = search needs
+
 slice-aggregate-first-apart : tie.Need-slice-aggregate-first-apart
 slice-aggregate-first-apart c = search needs
 
@@ -50,10 +68,16 @@ slice-aggregate-first-apart-3 c = search needs
 slice-aggregate-first-apart-4 : tie.Need-slice-aggregate-first-apart-4
 slice-aggregate-first-apart-4 c = search needs
 
+slice-aggregate-first-apart-5 : tie.Need-slice-aggregate-first-apart-5
+slice-aggregate-first-apart-5 c = search needs
+
+slice-aggregate-first-apart-6 : tie.Need-slice-aggregate-first-apart-6
+slice-aggregate-first-apart-6 c = search needs
+
 first-apart-requires : tie.Need-first-apart-requires
 first-apart-requires c κs =
-    let both = and-true _ _ (c .before .before .before .before .if1 .taken) in
-    (c .before .before .before .before .before .before .before .before .before .before .sort .ensures .index (both .0), read-fills (search needs) (c .before .before .before .before .before .before .before .before .before .before .before .before .before .before .before .before .before .fill-keys .ensures), c .before .before .before .before .before .before .sort2 .ensures .index (both .1), read-fills (search needs) (c .before .before .before .before .before .before .before .before .before .before .before .before .before .before .fill-names .ensures))
+    let both = and-true _ _ (c .before .before .before .before .before .before .before .before .before .before .before .before .before .before .if1 .taken) in
+    (c .before .before .before .before .before .before .before .before .before .before .before .before .before .before .before .before .before .before .before .before .sort .ensures .index (both .0), read-fills (search needs) (c .before .before .before .before .before .before .before .before .before .before .before .before .before .before .before .before .before .before .before .before .before .before .before .before .before .before .before .fill-keys .ensures), c .before .before .before .before .before .before .before .before .before .before .before .before .before .before .before .before .sort2 .ensures .index (both .1), read-fills (search needs) (c .before .before .before .before .before .before .before .before .before .before .before .before .before .before .before .before .before .before .before .before .before .before .before .before .fill-names .ensures))
 
 returns : tie.Need-returns
 returns c = search needs
@@ -81,10 +105,18 @@ first-elsewhere-spec =
     slice-aggregate-sort-3
     slice-aggregate-sort-4
     sort-requires-2
+    slice-aggregate-fill-hints
+    slice-aggregate-fill-hints-2
+    fill-hints-requires
+    slice-aggregate-fill-hints-3
+    slice-aggregate-fill-hints-4
+    fill-hints-requires-2
     slice-aggregate-first-apart
     slice-aggregate-first-apart-2
     slice-aggregate-first-apart-3
     slice-aggregate-first-apart-4
+    slice-aggregate-first-apart-5
+    slice-aggregate-first-apart-6
     first-apart-requires
     returns
     returns-2)

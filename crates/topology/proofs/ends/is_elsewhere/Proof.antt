@@ -6,8 +6,8 @@ use borrow.Author.Needs.{needs}
 use Rattle.topology.proofs.ends.is_elsewhere.Statement.{statement}
 use Rattle.topology.proofs.ends.is_elsewhere.Tie as tie
 
-find-requires : tie.Need-find-requires
-find-requires c κs = search needs
+find-hinted-requires : tie.Need-find-hinted-requires
+find-hinted-requires c κs = search needs
 
 enum-told : tie.Need-enum-told
 enum-told c = search needs
@@ -26,9 +26,9 @@ node-at-requires c κs = search needs
 
 returns : tie.Need-returns
 returns c =
-    let s = c .before .before .before .before .before .before .before .before .before .before .before .before .before .before in
+    let s = c .before .before .before .before .before .before .before .before .before .before .before .before .before .before .before .before in
     elsewhere-met (endFiles [] (s .args .vertice .now) (s .args .nodo .now)) (s .pre .1) _ (s .args .wanted)
-    (c .before .before .before .before .before .before .before .find .ensures) (c .before .before .before .before .before .found .given .1) (c .before .before .before .x-at .ensures .0) (c .before .before .y-at .ensures .0)
+    (c .before .before .before .before .before .before .before .find-hinted .ensures) (c .before .before .before .before .before .found .given .1) (c .before .before .before .x-at .ensures .0) (c .before .before .y-at .ensures .0)
     (c .before .node-at .ensures) (c .if1 .taken)
 
 scan-meets-requires : tie.Need-scan-meets-requires
@@ -36,21 +36,21 @@ scan-meets-requires c κs = search needs
 
 returns-2 : tie.Need-returns-2
 returns-2 c =
-    let s = c .before .before .before .before .before .before .before .before .before in
+    let s = c .before .before .before .before .before .before .before .before .before .before .before in
     elsewhere-none (endFiles [] (s .args .vertice .now) (s .args .nodo .now)) (s .pre .1) _ (s .args .wanted)
-    (c .before .before .find .ensures) (c .enum-told .given .1)
+    (c .before .before .find-hinted .ensures) (c .enum-told .given .1)
 
 returns-3 : tie.Need-returns-3
 returns-3 c =
-    let s = c .before .before .before .before .before .before .before .before .before .before .before .before .before .before .before in
+    let s = c .before .before .before .before .before .before .before .before .before .before .before .before .before .before .before .before .before in
     elsewhere-found (endFiles [] (s .args .vertice .now) (s .args .nodo .now)) (s .pre .1) _ (s .args .wanted)
-    (c .before .before .before .before .before .before .before .before .find .ensures) (c .before .before .before .before .before .before .found .given .1) (c .scan-meets .ensures)
+    (c .before .before .before .before .before .before .before .before .find-hinted .ensures) (c .before .before .before .before .before .before .found .given .1) (c .scan-meets .ensures)
 
 pub is-elsewhere-spec : {M : Type 1} → statement M
 is-elsewhere-spec =
     tie.close
     (tie.spec
-    find-requires
+    find-hinted-requires
     enum-told
     enum-known-found
     x-at-requires

@@ -23,17 +23,29 @@ slice-aggregate-sort-2 c = search needs
 sort-requires : tie.Need-sort-requires
 sort-requires c κs = search needs
 
+slice-aggregate-fill-hints : tie.Need-slice-aggregate-fill-hints
+slice-aggregate-fill-hints c = search needs
+
+slice-aggregate-fill-hints-2 : tie.Need-slice-aggregate-fill-hints-2
+slice-aggregate-fill-hints-2 c = search needs
+
+fill-hints-requires : tie.Need-fill-hints-requires
+fill-hints-requires c κs = search needs
+
 slice-aggregate-first-gap-in : tie.Need-slice-aggregate-first-gap-in
 slice-aggregate-first-gap-in c = search needs
 
 slice-aggregate-first-gap-in-2 : tie.Need-slice-aggregate-first-gap-in-2
 slice-aggregate-first-gap-in-2 c = search needs
 
+slice-aggregate-first-gap-in-3 : tie.Need-slice-aggregate-first-gap-in-3
+slice-aggregate-first-gap-in-3 c = search needs
+
 first-gap-in-requires : tie.Need-first-gap-in-requires
-first-gap-in-requires c κs = c .before .before .before .before .sort .ensures .index (c .before .before .if1 .taken)
+first-gap-in-requires c κs = c .before .before .before .before .before .before .before .before .before .sort .ensures .index (c .before .before .before .before .before .before .before .if1 .taken)
 
 returns : tie.Need-returns
-returns c = found-column (read-fills (search needs) (c .before .before .before .before .before .before .before .before .before .fill-keys .ensures)) _ _ (c .first-gap-in .ensures) (gap-column (read-fills (search needs) (c .before .before .before .before .before .before .before .before .before .fill-keys .ensures)))
+returns c = found-column (read-fills (search needs) (c .before .before .before .before .before .before .before .before .before .before .before .before .before .before .fill-keys .ensures)) _ _ (c .first-gap-in .ensures) (gap-column (read-fills (search needs) (c .before .before .before .before .before .before .before .before .before .before .before .before .before .before .fill-keys .ensures)))
 
 returns-2 : tie.Need-returns-2
 returns-2 c =
@@ -49,8 +61,12 @@ first-gap-spec =
     slice-aggregate-sort
     slice-aggregate-sort-2
     sort-requires
+    slice-aggregate-fill-hints
+    slice-aggregate-fill-hints-2
+    fill-hints-requires
     slice-aggregate-first-gap-in
     slice-aggregate-first-gap-in-2
+    slice-aggregate-first-gap-in-3
     first-gap-in-requires
     returns
     returns-2)

@@ -10,10 +10,10 @@ use Rattle.topology.proofs.orders.first_gap_in.Statement.{statement}
 use Rattle.topology.proofs.orders.first_gap_in.Tie as tie
 
 abbrev Inv-loop : tie.InvT-loop
-Inv-loop keys order n i₀ i = Passed (gap (listed keys) n) n i
+Inv-loop keys order hints n i₀ i = Passed (gap (listed keys) n) n i
 
 abbrev μ-loop : tie.MeasureT-loop
-μ-loop keys order n i₀ i = n - i
+μ-loop keys order hints n i₀ i = n - i
 
 loop-holds : tie.Need-loop-holds Inv-loop μ-loop
 loop-holds c = found-start _ _

@@ -12,18 +12,18 @@ mul-x c = search needs
 shared-slice-read-x : tie.Need-shared-slice-read-x
 shared-slice-read-x c = search needs
 
-add-has : tie.Need-add-has
-add-has c = omega (arith, c .before .shared-slice-known3 .given (c .before .before .before .before .args .i))
+add-has-hinted : tie.Need-add-has-hinted
+add-has-hinted c = omega (arith, c .before .shared-slice-known4 .given (c .before .before .before .before .before .args .i))
 
-has-requires : tie.Need-has-requires
-has-requires c κs = search needs
+has-hinted-requires : tie.Need-has-hinted-requires
+has-hinted-requires c κs = search needs
 
 returns : tie.Need-returns
-returns c = alone-one _ _ _ (c .before .if1 .taken) (c .has .ensures)
+returns c = alone-one _ _ _ (c .before .if1 .taken) (c .has-hinted .ensures)
 
 returns-2 : tie.Need-returns-2
 returns-2 c = alone-other _ _ _ (c .if1 .left)
 
 pub is-alone-spec : {M : Type 1} → statement M
 is-alone-spec =
-    tie.close (tie.spec mul-x shared-slice-read-x add-has has-requires returns returns-2)
+    tie.close (tie.spec mul-x shared-slice-read-x add-has-hinted has-hinted-requires returns returns-2)

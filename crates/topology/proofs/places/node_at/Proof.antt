@@ -7,8 +7,8 @@ use Rattle.topology.proofs.PlaceLaws.{named-none, named-here}
 use Rattle.topology.proofs.places.node_at.Statement.{statement}
 use Rattle.topology.proofs.places.node_at.Tie as tie
 
-find-requires : tie.Need-find-requires
-find-requires c κs = search needs
+find-hinted-requires : tie.Need-find-hinted-requires
+find-hinted-requires c κs = search needs
 
 enum-told : tie.Need-enum-told
 enum-told c = search needs
@@ -23,7 +23,7 @@ returns : tie.Need-returns
 unfolding nodeIn
 returns c =
     let d = c .before .before .before .before .before in
-    named-here (d .before .before .before .before .pre .1) _ (d .find .ensures) _ (c .before .before .before .found .given .1) (sym (c .before .is-at .ensures) ∙ c .if1 .taken)
+    named-here (d .before .before .before .before .before .pre .1) _ (d .find-hinted .ensures) _ (c .before .before .before .found .given .1) (sym (c .before .is-at .ensures) ∙ c .if1 .taken)
 
 scan-node-requires : tie.Need-scan-node-requires
 scan-node-requires c κs = search needs
@@ -32,7 +32,7 @@ returns-2 : tie.Need-returns-2
 unfolding nodeIn
 returns-2 c =
     let d = c .before .before in
-    named-none (d .before .before .before .before .pre .1) _ (d .find .ensures) _ (c .enum-told .given .1)
+    named-none (d .before .before .before .before .before .pre .1) _ (d .find-hinted .ensures) _ (c .enum-told .given .1)
 
 returns-3 : tie.Need-returns-3
 returns-3 c = search needs
@@ -41,7 +41,7 @@ pub node-at-spec : {M : Type 1} → statement M
 node-at-spec =
     tie.close
     (tie.spec
-    find-requires
+    find-hinted-requires
     enum-told
     enum-known-found
     is-at-requires
