@@ -5,7 +5,8 @@ use crate::places::x_at;
 use crate::places::y_at;
 use crate::places::z_at;
 use index::Found;
-use index::look::has;
+use index::hint::fill_hints;
+use index::hint::has_hinted;
 use index::order::sort;
 use index::twice::duplicate;
 use keys::column::fill_names;
@@ -126,6 +127,7 @@ fn mark_named<'a>(
     f: usize,
     keys: &'a [u64],
     order: &'a [usize],
+    hints: &'a [u16],
     n: usize,
     used: &mut [u64; 16384],
 )
@@ -135,7 +137,7 @@ fn mark_named<'a>(
     let m = rows(s, k);
     let mut i = 0;
     while i < m {
-        if has(keys, order, n, name(s, k, i, f)) {
+        if has_hinted(keys, order, hints, n, name(s, k, i, f)) {
             used[i] = 1;
         }
         i += 1;
@@ -159,7 +161,9 @@ fn mark_names<'a>(
     let n = fill_names(to, other, g, &mut keys);
     let mut order = [0usize; 16384];
     sort(&keys, &mut order, n);
-    mark_named(s, k, f, &keys, &order, n, used);
+    let mut hints = [0u16; 32768];
+    fill_hints(&keys, &mut hints, n);
+    mark_named(s, k, f, &keys, &order, &hints, n, used);
 }
 
 // Marks the nodes at the X and Y of a vertex, with the vertices' positions in hand.
@@ -168,6 +172,7 @@ fn mark_placed<'a>(
     vertice: &'a [u8],
     positions: &'a [u64],
     order: &'a [usize],
+    hints: &'a [u16],
     n: usize,
     used: &mut [u64; 16384],
 )
@@ -179,7 +184,7 @@ fn mark_placed<'a>(
     while i < m {
         let x = x_at(nodo, Kind::Nodo, i);
         let y = y_at(nodo, Kind::Nodo, i);
-        if has_placed(vertice, Kind::Vertice, positions, order, n, x, y) {
+        if has_placed(vertice, Kind::Vertice, positions, order, hints, n, x, y) {
             used[i] = 1;
         }
         i += 1;
@@ -195,7 +200,9 @@ fn mark_places<'a>(nodo: &'a [u8], vertice: &'a [u8], used: &mut [u64; 16384])
     let n = fill_positions(vertice, Kind::Vertice, &mut positions);
     let mut order = [0usize; 16384];
     sort(&positions, &mut order, n);
-    mark_placed(nodo, vertice, &positions, &order, n, used);
+    let mut hints = [0u16; 32768];
+    fill_hints(&positions, &mut hints, n);
+    mark_placed(nodo, vertice, &positions, &order, &hints, n, used);
 }
 
 // The first of n that is not marked.

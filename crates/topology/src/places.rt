@@ -144,6 +144,7 @@ pub(crate) fn has_placed<'a>(
     k: Kind,
     positions: &'a [u64],
     order: &'a [usize],
+    hints: &'a [u16],
     n: usize,
     x: u64,
     y: u64,
@@ -151,7 +152,7 @@ pub(crate) fn has_placed<'a>(
     requires { ⌜ Index (now positions) (now order) n × Fills (now positions) (λ i. positionOf (xAt k (tableOf (now s) k) i) (yAt k (tableOf (now s) k) i)) (tableOf (now s) k .count) n ⌝ }
     ensures { λ r. ⌜ r ≡ placed k (tableOf (now (s .entry)) k) (tableOf (now (s .entry)) k .count) x y ⌝ }
 {
-    let found = index::look::find(positions, order, n, position(x, y));
+    let found = find_hinted(positions, order, hints, n, position(x, y));
     match found {
         Found::Nothing => false,
         Found::At(j) => {

@@ -13,22 +13,22 @@ use Rattle.topology.proofs.nodes.mark_named.Statement.{statement}
 use Rattle.topology.proofs.nodes.mark_named.Tie as tie
 
 abbrev Inv-loop : tie.InvT-loop
-Inv-loop s k f keys order n used₀ m i₀ used i = Marking used₀ (λ j. names (λ h. getD keys h 0) n (nameAt k (tableOf s k) j f)) m used i
+Inv-loop s k f keys order hints n used₀ m i₀ used i = Marking used₀ (λ j. names (λ h. getD keys h 0) n (nameAt k (tableOf s k) j f)) m used i
 
 abbrev μ-loop : tie.MeasureT-loop
-μ-loop s k f keys order n used₀ m i₀ used i = m - i
+μ-loop s k f keys order hints n used₀ m i₀ used i = m - i
 
 rows-requires : tie.Need-rows-requires Inv-loop μ-loop
 rows-requires c κs = search needs
 
 loop-holds : tie.Need-loop-holds Inv-loop μ-loop
-loop-holds c = marking-none _ _ _ (c .before .before .before .before .pre .1)
+loop-holds c = marking-none _ _ _ (c .before .before .before .before .before .pre .1)
 
 name-requires : tie.Need-name-requires Inv-loop μ-loop
 name-requires c κs = search needs
 
-has-requires : tie.Need-has-requires Inv-loop μ-loop
-has-requires c κs = search needs
+has-hinted-requires : tie.Need-has-hinted-requires Inv-loop μ-loop
+has-hinted-requires c κs = search needs
 
 mul-used : tie.Need-mul-used Inv-loop μ-loop
 mul-used c = search needs
@@ -45,7 +45,7 @@ loop-less c = search needs
 loop-again : tie.Need-loop-again Inv-loop μ-loop
 loop-again c =
     let d = c .before .before .before .before in
-    let told = rw (c .before .before .name .ensures .0) at (c .before .has .ensures) in
+    let told = rw (c .before .before .name .ensures .0) at (c .before .has-hinted .ensures) in
     ⊎-elim
     (λ w.
     marking-set (d .loop .inv) (c .before .before .before .loop-test .taken) (d .before .rows .ensures .1) (sym told ∙ w .0 .taken) (w .1))
@@ -55,7 +55,7 @@ loop-again c =
 returns : tie.Need-returns Inv-loop μ-loop
 returns c =
     let d = c .before in
-    marking-end (d .loop .inv) (d .before .before .before .before .before .pre .1) (c .loop-test .left) (d .before .rows .ensures .0)
+    marking-end (d .loop .inv) (d .before .before .before .before .before .before .pre .1) (c .loop-test .left) (d .before .rows .ensures .0)
 
 pub mark-named-spec : {M : Type 1} → statement M
 mark-named-spec =
@@ -66,7 +66,7 @@ mark-named-spec =
     rows-requires
     loop-holds
     name-requires
-    has-requires
+    has-hinted-requires
     mul-used
     element-write-used
     add-i

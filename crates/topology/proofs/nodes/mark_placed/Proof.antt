@@ -12,19 +12,19 @@ use Rattle.topology.proofs.nodes.mark_placed.Statement.{statement}
 use Rattle.topology.proofs.nodes.mark_placed.Tie as tie
 
 abbrev Inv-loop : tie.InvT-loop
-Inv-loop nodo vertice positions order n used₀ m i₀ used i =
+Inv-loop nodo vertice positions order hints n used₀ m i₀ used i =
     Marking used₀
     (λ j. placed Vertice (tableOf vertice Vertice) (tableOf vertice Vertice .count) (xAt Nodo (tableOf nodo Nodo) j) (yAt Nodo (tableOf nodo Nodo) j))
     m used i
 
 abbrev μ-loop : tie.MeasureT-loop
-μ-loop nodo vertice positions order n used₀ m i₀ used i = m - i
+μ-loop nodo vertice positions order hints n used₀ m i₀ used i = m - i
 
 rows-requires : tie.Need-rows-requires Inv-loop μ-loop
 rows-requires c κs = search needs
 
 loop-holds : tie.Need-loop-holds Inv-loop μ-loop
-loop-holds c = marking-none _ _ _ (c .before .before .before .before .before .pre .2)
+loop-holds c = marking-none _ _ _ (c .before .before .before .before .before .before .pre .2)
 
 x-at-requires : tie.Need-x-at-requires Inv-loop μ-loop
 x-at-requires c κs = search needs
@@ -60,7 +60,7 @@ loop-again c =
 returns : tie.Need-returns Inv-loop μ-loop
 returns c =
     let d = c .before in
-    marking-end (d .loop .inv) (d .before .before .before .before .before .before .pre .2) (c .loop-test .left) (d .before .rows .ensures .0)
+    marking-end (d .loop .inv) (d .before .before .before .before .before .before .before .pre .2) (c .loop-test .left) (d .before .rows .ensures .0)
 
 pub mark-placed-spec : {M : Type 1} → statement M
 mark-placed-spec =

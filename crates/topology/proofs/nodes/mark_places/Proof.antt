@@ -17,15 +17,27 @@ slice-aggregate-sort-2 c = search needs
 sort-requires : tie.Need-sort-requires
 sort-requires c κs = search needs
 
+slice-aggregate-fill-hints : tie.Need-slice-aggregate-fill-hints
+slice-aggregate-fill-hints c = search needs
+
+slice-aggregate-fill-hints-2 : tie.Need-slice-aggregate-fill-hints-2
+slice-aggregate-fill-hints-2 c = search needs
+
+fill-hints-requires : tie.Need-fill-hints-requires
+fill-hints-requires c κs = search needs
+
 slice-aggregate-mark-placed : tie.Need-slice-aggregate-mark-placed
 slice-aggregate-mark-placed c = search needs
 
 slice-aggregate-mark-placed-2 : tie.Need-slice-aggregate-mark-placed-2
 slice-aggregate-mark-placed-2 c = search needs
 
+slice-aggregate-mark-placed-3 : tie.Need-slice-aggregate-mark-placed-3
+slice-aggregate-mark-placed-3 c = search needs
+
 mark-placed-requires : tie.Need-mark-placed-requires
 mark-placed-requires c κs =
-    let d = c .before .before .before .before in
+    let d = c .before .before .before .before .before .before .before .before .before in
     let f = d .before .before .before in
     (sorted-column (f .fill-positions .ensures) (search needs) (d .sort .ensures), f .fill-positions .ensures, f .before .before .before .before .pre)
 
@@ -40,7 +52,11 @@ mark-places-spec =
     slice-aggregate-sort
     slice-aggregate-sort-2
     sort-requires
+    slice-aggregate-fill-hints
+    slice-aggregate-fill-hints-2
+    fill-hints-requires
     slice-aggregate-mark-placed
     slice-aggregate-mark-placed-2
+    slice-aggregate-mark-placed-3
     mark-placed-requires
     returns)

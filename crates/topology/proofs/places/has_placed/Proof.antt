@@ -10,8 +10,8 @@ use Rattle.topology.proofs.places.has_placed.Tie as tie
 position-requires : tie.Need-position-requires
 position-requires c κs = search needs
 
-find-requires : tie.Need-find-requires
-find-requires c κs = search needs
+find-hinted-requires : tie.Need-find-hinted-requires
+find-hinted-requires c κs = search needs
 
 enum-told : tie.Need-enum-told
 enum-told c = search needs
@@ -26,7 +26,7 @@ returns : tie.Need-returns
 unfolding placed
 returns c =
     let d = c .before .before .before .before .before in
-    looked-here (d .before .before .before .before .before .pre .1) _ (d .find .ensures) _ (c .before .before .before .found .given .1) (sym (c .before .is-at .ensures) ∙ c .if1 .taken)
+    looked-here (d .before .before .before .before .before .before .pre .1) _ (d .find-hinted .ensures) _ (c .before .before .before .found .given .1) (sym (c .before .is-at .ensures) ∙ c .if1 .taken)
 
 scan-placed-requires : tie.Need-scan-placed-requires
 scan-placed-requires c κs = search needs
@@ -35,7 +35,7 @@ returns-2 : tie.Need-returns-2
 unfolding placed
 returns-2 c =
     let d = c .before .before in
-    looked-none (d .before .before .before .before .before .pre .1) _ (d .find .ensures) _
+    looked-none (d .before .before .before .before .before .before .pre .1) _ (d .find-hinted .ensures) _
     (λ j h. same-position _ _ _ _ h ∙ sym (d .before .position .ensures))
     (c .enum-told .given .1)
 
@@ -47,7 +47,7 @@ has-placed-spec =
     tie.close
     (tie.spec
     position-requires
-    find-requires
+    find-hinted-requires
     enum-told
     enum-known-found
     is-at-requires
