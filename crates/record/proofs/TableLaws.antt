@@ -1,6 +1,6 @@
 -- The laws of the columns of specs/Table.antt, and of the code's tables.
 -- Assumes nothing.
-use Prim.Native.Nat.{ℕ, zero, suc, _+_, _-_, _≤_, _<_}
+use Prim.Native.Nat.{ℕ, zero, suc, _+_, _-_, _*_, _/_, _%_, _≤_, _<_}
 use mathlib.Core.Bool.{Bool, true, false, _&&_, _||_, not}
 use mathlib.Core.List.{List, [], _∷_, map}
 use mathlib.Core.Path.{_≡_, refl, sym, ap, subst, _∙_}
@@ -157,10 +157,21 @@ unfolding everywhere
 every-place p e k f l =
     ap (p k) (sym (row-at (λ g. g) 16 0 l)) ∙ each-at (p k) (row (λ g. g) 16) f 0 (every (λ j. each (p j) (row (λ g. g) 16)) e k) (rw length-row l)
 
--- THE CODE'S TABLES: what the code reads of a kind's number n at a place
-pub read : (g : List Col → ℕ → ℕ) → everywhere (λ k f. eqb (digitOf (packedOf g k) f) (g (cols k) f)) ≡ true
-    → (k : Kind) (f : ℕ) {n : ℕ} → n ≡ packedOf g k → f < 16 → digitOf n f ≡ g (cols k) f
+-- THE CODE'S TABLES. The digits of an attribute's numbers are the attribute, as is computed of each
+abbrev pub Packs : (List Col → ℕ → ℕ) → Type 0
+Packs g = everywhere (λ k f. eqb (digitOf (packedOf g k) f) (g (cols k) f)) ≡ true
+
+-- so that the code reads it of a kind's number n at a place,
+pub read : (g : List Col → ℕ → ℕ) → Packs g → (k : Kind) (f : ℕ) {n : ℕ} → n ≡ packedOf g k → f < 16 → digitOf n f ≡ g (cols k) f
 read g e k f q l = rw q (eqb-true _ _ (every-place (λ k f. eqb (digitOf (packedOf g k) f) (g (cols k) f)) e k f l))
+
+-- and of two numbers, which have its two digits
+pub read-two : (g : List Col → ℕ → ℕ) → Packs (λ cs f. g cs f / 16) → Packs (λ cs f. g cs f % 16) → (k : Kind) (f : ℕ) {m n : ℕ}
+    → m ≡ packedOf (λ cs f. g cs f / 16) k → n ≡ packedOf (λ cs f. g cs f % 16) k → f < 16 → digitOf m f * 16 + digitOf n f ≡ g (cols k) f
+read-two g d e k f p q l =
+    let high = read (λ cs f. g cs f / 16) d k f p l in
+    let low = read (λ cs f. g cs f % 16) e k f q l in
+    omega arith
 
 -- and past them
 pub past : {A : Type 0} (g : Col → A) (k : Kind) (f : ℕ) → 16 ≤ f → g whole ≡ g (colAt k f)

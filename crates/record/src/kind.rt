@@ -1,6 +1,6 @@
 // The kinds of file: constants and functions of a kind.
 ghost use mathlib.Core.Path.{_≡_};
-ghost use Prim.Native.Nat.{_/_, _%_, _<_};
+ghost use Prim.Native.Nat.{_+_, _*_, _/_, _%_, _<_};
 ghost use lib.ListN.{getD};
 ghost use Rattle.laws.specs.Row.{pick};
 ghost use Rattle.record.specs.Table.{whole, offsetIn, digitOf, packedOf, codeOf, formAt, widthAt, mustAt, beforeAt, afterAt, offsetAt, fieldsOf, lengthOf, keysOf, fileOf, whichOf, isN, isCode, formOf};
@@ -38,6 +38,15 @@ fn digit(n: u64, f: usize) -> usize
     ensures { λ r. ⌜ r ≡ digitOf n f ⌝ }
 {
     ((n >> (4 * f)) % 16) as usize
+}
+
+// What has its two digits in two numbers.
+fn two_digits(high: u64, low: u64, f: usize) -> usize
+    requires { ⌜ f < 16 ⌝ }
+    ensures { λ r. ⌜ r ≡ digitOf high f * 16 + digitOf low f ⌝ }
+    ensures small { λ r. ⌜ r < 256 ⌝ }
+{
+    digit(high, f) * 16 + digit(low, f)
 }
 
 fn form_of(n: usize) -> Form
@@ -297,7 +306,7 @@ impl Kind {
         ensures small { λ r. ⌜ r < 256 ⌝ }
     {
         if f < 16 {
-            digit(self.widths_high(), f) * 16 + digit(self.widths_low(), f)
+            two_digits(self.widths_high(), self.widths_low(), f)
         } else {
             0
         }
@@ -309,7 +318,7 @@ impl Kind {
         ensures small { λ r. ⌜ r < 256 ⌝ }
     {
         if f < 16 {
-            digit(self.offsets_high(), f) * 16 + digit(self.offsets_low(), f)
+            two_digits(self.offsets_high(), self.offsets_low(), f)
         } else {
             self.length() - 1
         }
