@@ -1,7 +1,8 @@
 -- The laws of a text in a field: padding, trimming, the first bytes, and a text as one number (specs/Texts.antt).
 -- Assumes nothing.
 use Prim.Native.Nat.{ℕ, zero, suc, _+_, _-_, _≤_, _<_}
-use mathlib.Core.Bool.{Bool, true, false}
+use mathlib.Core.Bool.{Bool, true, false, _&&_, _||_, and-false, or-true}
+use mathlib.Core.Bool as bool
 use mathlib.Core.List.{List, [], _∷_, _++_}
 use mathlib.Core.Path.{_≡_, refl, ap, sym, _∙_}
 use mathlib.Core.Logic.{⊎-elim}
@@ -11,13 +12,13 @@ use native.Mathlib.Omega.{arith}
 use lib.Dec.{eqb}
 use lib.ListN.{length, getD, take, replicate, length-append, length-replicate, getD-replicate, List·getD-append, List·getD-eq-default}
 use lib.Seq.{take-all, take-at, take-take, take-append-le, length-take-le, getD-take, getD-append-add, ext-getD}
-use borrow.Author.Tests.{eqb-true, eq-eqb}
+use borrow.Author.Tests.{eqb-true, eq-eqb, ne-eqb}
 use Rattle.laws.specs.Row.{pick, each}
 use Rattle.laws.proofs.FindLaws.{true-false}
 use Rattle.laws.proofs.RowLaws.{and-true, true-and}
 use Rattle.field.specs.declared.class.Class.{Class}
 use Rattle.field.specs.declared.class.Class.the-variants.{Blank, Text}
-use Rattle.field.specs.Bytes.{inClass, allOf, blanks}
+use Rattle.field.specs.Bytes.{inClass, allOf, blanks, lawfulText}
 use Rattle.field.specs.Texts.{padded, trimTo, trimmed, firstBytes, base256, wordOf}
 use Rattle.field.proofs.TextLoops.{length-padded, padded-in, padded-past, length-trimmed, trimmed-at, length-first, base-more}
 use Rattle.field.proofs.DigitLaws.{all-at, not-all, all-append}
@@ -46,6 +47,19 @@ blank-is s e =
 
 pub not-blank-first : (s : List ℕ) → 0 < length s → eqb (getD s 0 0) 32 ≡ false → allOf Blank s ≡ false
 not-blank-first s l e = not-all Blank s 0 l e
+
+-- THE A RULE by the first byte: a blank asks for blanks, and any other for bytes of the A set
+pub lawful-blank : (s : List ℕ) → getD s 0 0 ≡ 32 → allOf Blank s ≡ lawfulText s
+unfolding lawfulText
+lawful-blank s e = rw (eq-eqb (getD s 0 0) 32 e) (go (allOf Blank s) refl)
+  where
+    go : (b : Bool) → allOf Blank s ≡ b → b ≡ (allOf Text s && (b || false))
+    go true q = rw (ap (allOf Text) (blank-is s q) ∙ all-blanks Text refl (length s))
+    go false q = sym (and-false (allOf Text s))
+
+pub lawful-text : (s : List ℕ) → (getD s 0 0 ≡ 32 → ⊥) → allOf Text s ≡ lawfulText s
+unfolding lawfulText
+lawful-text s n = rw (ne-eqb (getD s 0 0) 32 n, or-true, bool.and-true)
 
 pub padded-first : (w : ℕ) (t : List ℕ) → 0 < w → 0 < length t → getD (padded w t) 0 0 ≡ getD t 0 0
 padded-first w t h l = padded-in w t 0 h l

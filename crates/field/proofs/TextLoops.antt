@@ -1,19 +1,30 @@
--- What the loops over texts do in a turn: a padded text byte by byte, trailing blanks, a text as one number.
+-- What the loops over texts do in a turn: a class byte by byte, a padded text byte by byte, trailing blanks, a text as one number.
 -- Assumes nothing.
 use Prim.Native.Nat.{ℕ, zero, suc, _+_, _-_, _*_, _^_, _≤_, _<_}
 use mathlib.Core.Path.{_≡_, refl, ap, sym, _∙_}
-use mathlib.Core.Bool.{Bool, true, false, _&&_, _||_}
+use mathlib.Core.Bool.{Bool, true, false, _&&_, _||_, and-assoc, and-true}
 use mathlib.Core.List.{List, [], _∷_, _++_}
 use native.Mathlib.Nat.{pow-suc, not-suc-le-zero}
 use native.Mathlib.Numerals.{add-one, sub-one}
 use native.Mathlib.Omega.{arith}
 use lib.Dec.{ltb, eqb}
-use lib.ListN.{length, getD, take, set, replicate, length-append, length-replicate, getD-replicate, List·getD-append}
-use lib.Seq.{take-suc, take-suc-set, take-all, getD-take, getD-append-add, length-take-le}
+use lib.ListN.{length, getD, take, drop, set, drop-of-length-le, replicate, length-append, length-replicate, getD-replicate, List·getD-append}
+use lib.Seq.{drop-cons, take-suc, take-suc-set, take-all, getD-take, getD-append-add, length-take-le}
 use borrow.Author.Tests.{ltb-true, ltb-false, eqb-true, eq-eqb, ne-eqb}
-use Rattle.laws.specs.Row.{pick}
-use Rattle.field.specs.Bytes.{blanks}
+use Rattle.laws.specs.Row.{pick, each}
+use Rattle.field.specs.declared.class.Class.{Class}
+use Rattle.field.specs.Bytes.{inClass, allOf, blanks}
 use Rattle.field.specs.Texts.{padded, trimTo, trimmed, firstBytes, notGiven, base256, wordOf}
+
+-- A CLASS: the invariant is `(b && allOf c (drop j s)) ≡ allOf c s`, with b for the bytes that were passed
+pub class-more : (c : Class) (b : Bool) (s : List ℕ) (j : ℕ) {r : Bool} → j < length s → r ≡ inClass c (getD s j 0)
+    → (b && r && allOf c (drop (j + 1) s)) ≡ (b && allOf c (drop j s))
+unfolding allOf each
+class-more c b s j h e = rw (e, add-one, drop-cons s j 0 h) (and-assoc b (inClass c (getD s j 0)) (each (inClass c) (drop (suc j) s)))
+
+pub class-end : (c : Class) (b : Bool) (s : List ℕ) (j : ℕ) → length s ≤ j → (b && allOf c (drop j s)) ≡ b
+unfolding allOf each
+class-end c b s j h = rw (drop-of-length-le s h, and-true)
 
 -- THE FIRST BYTES of a text
 pub zeros-after : (s : List ℕ) (n k : ℕ) → getD (s ++ replicate n 0) k 0 ≡ getD s k 0

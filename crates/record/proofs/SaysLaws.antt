@@ -1,7 +1,7 @@
--- What the code reads of a field, by its form: what it says (specs/Says.antt), that it is not given (specs/Rules.antt).
+-- What the code reads of a field, by its form: what it says (specs/Says.antt), its rules (specs/Rules.antt).
 -- Assumes nothing.
-use Prim.Native.Nat.{ℕ, zero, suc, _+_, _≤_, _<_}
-use mathlib.Core.Bool.{Bool, true, false, not, _&&_}
+use Prim.Native.Nat.{ℕ, zero, suc, _+_, _-_, _≤_, _<_}
+use mathlib.Core.Bool.{Bool, true, false, not, _&&_, and-true}
 use mathlib.Core.List.{List, [], _∷_}
 use mathlib.Core.Path.{_≡_, refl, sym, ap, _∙_}
 use native.Mathlib.Omega.{arith}
@@ -11,7 +11,7 @@ use types.Run.{OneOf, miss}
 use lib.Dec.{eqb}
 use lib.IntN.{ℤ, pos, negsuc}
 use lib.ListN.{length, getD}
-use Rattle.laws.specs.Row.{pick}
+use Rattle.laws.specs.Row.{pick, row, each}
 use Rattle.laws.proofs.FindLaws.{true-false}
 use Rattle.field.specs.declared.class.Class.the-variants.{Blank}
 use Rattle.field.specs.Bytes.{allOf}
@@ -21,9 +21,12 @@ use Rattle.field.specs.Texts.{trimmed, firstBytes, notGiven, wordOf}
 use Rattle.field.proofs.DigitLaws.{blank-number}
 use Rattle.field.proofs.TextLaws.{trimmed-le, trimmed-first, trimmed-some, trimmed-same, first-bytes-le, word-some}
 use Rattle.field.proofs.TextLoops.{length-trimmed}
+use Rattle.record.specs.declared.kind.Kind.{Kind}
 use Rattle.record.specs.declared.kind.Form.{Form}
 use Rattle.record.specs.declared.kind.Form.the-variants.{Words, Code, Tipo, Sense, Sign, Number, Size}
-use Rattle.record.specs.Table.{isN}
+use Rattle.record.specs.Table.{beforeAt, afterAt, isN}
+use Rattle.record.specs.Cut.{textOf}
+use Rattle.record.specs.Rules.{partnersBlank, outside}
 use Rattle.record.specs.Says.{Said, missing, number, text, coordinate, saidAs, isMissing, numberIn, coordinateIn, keyIn, letterIn, placeOf, placeIn, textSaid}
 use Rattle.record.proofs.kind.Form.{the-type}
 
@@ -306,3 +309,23 @@ key-same p q t b u c n hp hq bt bu =
 pub not-given-trimmed : (t : List ℕ) {len : ℕ} → len ≡ length (trimmed t) → notGiven (firstBytes len t) ≡ notGiven (trimmed t)
 unfolding trimmed
 not-given-trimmed t e = rw (e, first-bytes-le _ t (trimmed-le t), length-trimmed)
+
+-- THE DOMAIN is read of the next field for a sign alone
+pub next-unread : (t a b : List ℕ) (form : Form) → Among noSign form → outside form t a ≡ outside form t b
+unfolding outside
+next-unread t a b Words h = refl
+next-unread t a b Code h = refl
+next-unread t a b Tipo h = refl
+next-unread t a b Sense h = refl
+next-unread t a b Sign h = absurd (miss noSign 4 tt h)
+next-unread t a b Number h = refl
+next-unread t a b Size h = refl
+
+-- PARTNERS: a field that has none is asked alone
+pub partners-none : (s : List ℕ) (k : Kind) (f : ℕ) → beforeAt k f + afterAt k f ≡ 0 → partnersBlank s k f ≡ allOf Blank (textOf s k f)
+unfolding partnersBlank row each
+partners-none s k f h =
+    let b : beforeAt k f ≡ 0 = omega arith in
+    let a : afterAt k f ≡ 0 = omega arith in
+    let e : f - 0 + 0 ≡ f = omega arith in
+    rw (b, a, e, and-true)

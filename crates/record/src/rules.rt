@@ -9,19 +9,23 @@ use field::words::not_given;
 use field::words::trimmed_len;
 ghost use mathlib.Core.Path.{_≡_};
 ghost use mathlib.Core.Bool.{_&&_, _||_, not};
-ghost use Prim.Native.Nat.{ℕ, _+_, _-_, _<_, _≤_};
-ghost use lib.ListN.{length, getD};
+ghost use Prim.Native.Nat.{_+_, _-_, _<_};
 ghost use Rattle.field.specs.Bytes.{allOf};
-ghost use Rattle.record.specs.Table.{formAt, mustAt, fieldsOf};
+ghost use Rattle.field.specs.Texts.{trimmed, notGiven};
+ghost use Rattle.record.specs.Table.{mustAt, isN, isCode};
 ghost use Rattle.record.specs.Cut.{textOf};
-ghost use Rattle.record.specs.Rules.{breaks20, breaks21, notNumber, notText, missingIn, partnersBlank, isSignByte, outside, twenties};
+ghost use Rattle.record.specs.Rules.{breaks20, breaks21, notText, partnersBlank, isSignByte, outside, twenties};
 
 // 20: the record doesn't end in 0D 0A.
 fn bad_end(rec: &[u8], k: Kind, f: usize) -> bool
     ensures { λ r. ⌜ r ≡ breaks20 (now (rec .entry)) k f ⌝ }
 {
-    let n = k.length();
-    (f == 0) & !((byte(rec, n - 2) == 13) & (byte(rec, n - 1) == 10))
+    if f == 0 {
+        let n = k.length();
+        !((byte(rec, n - 2) == 13) & (byte(rec, n - 1) == 10))
+    } else {
+        false
+    }
 }
 
 // 21: no bar after a field.
@@ -33,10 +37,14 @@ fn no_bar(rec: &[u8], k: Kind, f: usize) -> bool
 }
 
 // 22: an N field is neither all digits nor all blanks.
-fn not_number(form: Form, t: &[u8]) -> bool
-    ensures { λ r. ⌜ r ≡ notNumber form (now (t .entry)) ⌝ }
+fn not_number(form: Form, t: &[u8], blank: bool) -> bool
+    ensures { λ r. ⌜ r ≡ (isN form && not blank && not (allOf Class.Digit (now (t .entry)))) ⌝ }
 {
-    form.is_n() & !Class::Blank.all(t) & !Class::Digit.all(t)
+    if form.is_n() & !blank {
+        !Class::Digit.all(t)
+    } else {
+        false
+    }
 }
 
 // 23: an A field breaks the A rule.
@@ -46,14 +54,14 @@ fn not_text(form: Form, t: &[u8]) -> bool
     if form.is_n() { false } else { !lawful_text(t) }
 }
 
-// Every byte is blank; for CODIGO also NA and ND.
-fn missing(form: Form, t: &[u8]) -> bool
-    ensures { λ r. ⌜ r ≡ missingIn form (now (t .entry)) ⌝ }
+// CODIGO says NA or ND.
+fn says_not_given(form: Form, t: &[u8]) -> bool
+    ensures { λ r. ⌜ r ≡ (isCode form && notGiven (trimmed (now (t .entry)))) ⌝ }
 {
     if form.is_code() {
-        Class::Blank.all(t) | not_given(t, trimmed_len(t))
+        not_given(t, trimmed_len(t))
     } else {
-        Class::Blank.all(t)
+        false
     }
 }
 
@@ -88,13 +96,21 @@ fn partners_blank(rec: &[u8], k: Kind, f: usize) -> bool
     true
 }
 
-// 24: gone where it may not be, or while a partner isn't blank.
-fn lacking(rec: &[u8], k: Kind, f: usize, gone: bool) -> bool
+// 24: gone where it may not be, or while a partner isn't blank. Of a field without partners it is known whether it is blank, and its
+// bytes are not read again.
+fn lacking(rec: &[u8], k: Kind, f: usize, gone: bool, blank: bool) -> bool
     requires { ⌜ f < 256 ⌝ }
+    requires known { ⌜ blank ≡ allOf Class.Blank (textOf (now rec) k f) ⌝ }
     ensures { λ r. ⌜ r ≡ (gone && (mustAt k f || not (partnersBlank (now (rec .entry)) k f))) ⌝ }
 {
     if gone {
-        k.must(f) | !partners_blank(rec, k, f)
+        if k.must(f) {
+            true
+        } else if k.before(f) + k.after(f) == 0 {
+            !blank
+        } else {
+            !partners_blank(rec, k, f)
+        }
     } else {
         false
     }
@@ -117,21 +133,29 @@ impl Form {
             Form::Code => false,
             Form::Tipo => !((b == 80) | (b == 88) | (b == 76) | (b == 84)),
             Form::Sense => !is_sign_byte(b),
-            Form::Sign => !is_sign_byte(b) | ((b == 45) & Class::Zero.all(next)),
+            Form::Sign => {
+                if b == 45 {
+                    Class::Zero.all(next)
+                } else {
+                    b != 43
+                }
+            }
             Form::Number => false,
             Form::Size => false,
         }
     }
 }
 
-// 25: outside its domain, of a field that is sound: not damaged, not missing.
-fn unfit(rec: &[u8], k: Kind, f: usize, sound: bool) -> bool
+// 25: outside its domain, of a field that is sound: not damaged, not missing. The next field is cut for a sign alone.
+fn unfit(rec: &[u8], k: Kind, f: usize, form: Form, t: &[u8], sound: bool) -> bool
     requires { ⌜ f < 256 ⌝ }
-    ensures { λ r. ⌜ r ≡ (sound && outside (formAt k f) (textOf (now (rec .entry)) k f) (textOf (now (rec .entry)) k (f + 1))) ⌝ }
+    ensures { λ r. ⌜ r ≡ (sound && outside form (now (t .entry)) (textOf (now (rec .entry)) k (f + 1))) ⌝ }
 {
     if sound {
-        let form = k.form(f);
-        form.outside(field(rec, k, f), field(rec, k, f + 1))
+        match form {
+            Form::Sign => form.outside(t, field(rec, k, f + 1)),
+            _ => form.outside(t, t),
+        }
     } else {
         false
     }
@@ -144,15 +168,16 @@ pub(crate) fn tests(rec: &[u8], k: Kind, f: usize) -> [bool; 6]
 {
     let form = k.form(f);
     let t = field(rec, k, f);
-    let no_number = not_number(form, t);
+    let blank = Class::Blank.all(t);
+    let no_number = not_number(form, t, blank);
     let no_text = not_text(form, t);
-    let gone = missing(form, t);
+    let gone = blank | says_not_given(form, t);
     [
         bad_end(rec, k, f),
         no_bar(rec, k, f),
         no_number,
         no_text,
-        lacking(rec, k, f, gone),
-        unfit(rec, k, f, !no_number & !no_text & !gone),
+        lacking(rec, k, f, gone, blank),
+        unfit(rec, k, f, form, t, !no_number & !no_text & !gone),
     ]
 }

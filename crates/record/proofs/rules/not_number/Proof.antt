@@ -1,6 +1,5 @@
 -- `record::rules::not_number` meets its contract.
 -- Assumes nothing.
-use Rattle.record.specs.Rules.{notNumber}
 use borrow.Author.Needs.{needs}
 use Rattle.record.proofs.rules.not_number.Statement.{statement}
 use Rattle.record.proofs.rules.not_number.Tie as tie
@@ -11,12 +10,11 @@ is-n-requires c κs = search needs
 all-requires : tie.Need-all-requires
 all-requires c κs = search needs
 
-all-requires-2 : tie.Need-all-requires-2
-all-requires-2 c κs = search needs
-
 returns : tie.Need-returns
-unfolding notNumber
-returns c = simp (c .all2 .ensures, c .before .all .ensures, c .before .before .is-n .ensures)
+returns c = simp (← c .before .before .is-n .ensures, c .before .if1 .taken, c .all .ensures)
+
+returns-2 : tie.Need-returns-2
+returns-2 c = simp (← c .before .is-n .ensures, c .if1 .left)
 
 pub not-number-spec : {M : Type 1} → statement M
-not-number-spec = tie.close (tie.spec is-n-requires all-requires all-requires-2 returns)
+not-number-spec = tie.close (tie.spec is-n-requires all-requires returns returns-2)

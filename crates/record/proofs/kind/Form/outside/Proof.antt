@@ -1,5 +1,8 @@
 -- `record::kind::Form::outside` meets its contract.
 -- Assumes nothing.
+use mathlib.Core.Bool.{or-false}
+use mathlib.Core.Path.{_∙_, sym}
+use borrow.Author.Tests.{ne-eqb}
 use Rattle.record.specs.Rules.{outside}
 use borrow.Author.Needs.{needs}
 use Rattle.record.proofs.kind.Form.outside.Statement.{statement}
@@ -25,9 +28,6 @@ is-sign-byte-requires c κs = search needs
 
 enum-told-5 : tie.Need-enum-told-5
 enum-told-5 c = search needs
-
-is-sign-byte-requires-2 : tie.Need-is-sign-byte-requires-2
-is-sign-byte-requires-2 c κs = search needs
 
 all-requires : tie.Need-all-requires
 all-requires c κs = search needs
@@ -56,15 +56,23 @@ returns-4 c = simp (c .before .enum-told4 .given .1, c .is-sign-byte .ensures, c
 
 returns-5 : tie.Need-returns-5
 unfolding outside
-returns-5 c = simp (c .before .before .enum-told5 .given .1, c .all .ensures, c .before .is-sign-byte2 .ensures, c .before .before .before .before .byte .ensures)
+returns-5 c =
+    let b = c .before .before .before .before in
+    simp (c .before .before .enum-told5 .given .1, c .all .ensures, sym (b .byte .ensures) ∙ c .before .if1 .taken)
 
 returns-6 : tie.Need-returns-6
 unfolding outside
-returns-6 c = simp (c .enum-told6 .given .1)
+returns-6 c =
+    let b = c .before .before .before in
+    simp (c .before .enum-told5 .given .1, b .byte .ensures, ne-eqb _ 45 (λ e. c .if1 .left (b .byte .ensures ∙ e)), or-false)
 
 returns-7 : tie.Need-returns-7
 unfolding outside
-returns-7 c = simp (c .enum-told7 .given .1)
+returns-7 c = simp (c .enum-told6 .given .1)
+
+returns-8 : tie.Need-returns-8
+unfolding outside
+returns-8 c = simp (c .enum-told7 .given .1)
 
 pub outside-spec : {M : Type 1} → statement M
 outside-spec =
@@ -77,7 +85,6 @@ outside-spec =
     enum-told-4
     is-sign-byte-requires
     enum-told-5
-    is-sign-byte-requires-2
     all-requires
     enum-told-6
     enum-told-7
@@ -87,4 +94,5 @@ outside-spec =
     returns-4
     returns-5
     returns-6
-    returns-7)
+    returns-7
+    returns-8)
