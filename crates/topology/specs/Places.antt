@@ -14,9 +14,9 @@ use Rattle.index.specs.declared.Found.the-variants.{At, Nothing}
 unfoldable pub positionOf : ℕ → ℕ → ℕ
 positionOf x y = x % 536870912 * 34359738368 + y % 34359738368
 
--- X, Y and Z
+-- X, Y and Z: all of Z's digits, and the remainder of X and Y by a prime near 2^36
 unfoldable pub spotOf : ℕ → ℕ → ℕ → ℕ
-spotOf x y z = x % 2097152 * 8796093022208 + y % 33554432 * 262144 + z % 262144
+spotOf x y z = (x % 2147483648 * 8589934592 + y % 8589934583) % 68719476731 * 268435456 + z % 268435456
 
 -- MARKS: of the first n, exactly those are 0 after that were 0 before and of which the test does not hold; the array keeps its length
 pub record Marks (before after : List ℕ) (test : ℕ → Bool) (n : ℕ) : Type 0 where

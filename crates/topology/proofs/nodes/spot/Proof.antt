@@ -22,4 +22,4 @@ unfolding spotOf
 returns c = search needs
 
 pub spot-spec : {M : Type 1} → statement M
-spot-spec = tie.close (tie.spec mul-result mul-result-2 add-result add-result-2 returns)
+spot-spec = tie.close (tie.spec mul-result add-result mul-result-2 add-result-2 returns)
