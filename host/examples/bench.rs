@@ -183,7 +183,7 @@ fn one_record() {
 fn main() {
     let work = || {
         lawful_deliveries();
-        damaged_deliveries(16_384);
+        damaged_deliveries(4_096);
         repeated_keys(16_384);
         one_record();
     };
