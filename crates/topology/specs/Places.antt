@@ -16,7 +16,7 @@ positionOf x y = x % 536870912 * 34359738368 + y % 34359738368
 
 -- X, Y and Z: all of Z's digits, and the remainder of X and Y by a prime near 2^36
 unfoldable pub spotOf : ℕ → ℕ → ℕ → ℕ
-spotOf x y z = (x % 2147483648 * 8589934592 + y % 8589934583) % 68719476731 * 268435456 + z % 268435456
+spotOf x y z = (x % 2147483648 * 4093082899 + y % 8589934583) % 68719476731 * 268435456 + z % 268435456
 
 -- MARKS: of the first n, exactly those are 0 after that were 0 before and of which the test does not hold; the array keeps its length
 pub record Marks (before after : List ℕ) (test : ℕ → Bool) (n : ℕ) : Type 0 where

@@ -56,7 +56,7 @@ pub(crate) fn place_before(nodo: &[u8], i: usize) -> Found
 fn spot(x: u64, y: u64, z: u64) -> u64
     ensures { λ r. ⌜ r ≡ spotOf x y z ⌝ }
 {
-    (x % 2147483648 * 8589934592 + y % 8589934583) % 68719476731 * 268435456 + z % 268435456
+    (x % 2147483648 * 4093082899 + y % 8589934583) % 68719476731 * 268435456 + z % 268435456
 }
 
 fn fill_spots(nodo: &[u8], out: &mut [u64; 16384]) -> usize
