@@ -39,7 +39,7 @@ fn last_in(keys: &[u64], order: &[usize], n: usize, limit: u64) -> Found
 }
 
 // A record with the key `x`.
-pub fn find(keys: &[u64], order: &[usize], n: usize, x: u64) -> Found
+pub(crate) fn find(keys: &[u64], order: &[usize], n: usize, x: u64) -> Found
     requires { ⌜ Index (now keys) (now order) n ⌝ }
     ensures { λ r. ⌜ Sought (now (keys .entry)) n x r ⌝ }
 {

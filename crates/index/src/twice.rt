@@ -10,7 +10,7 @@ ghost use Rattle.index.specs.Keys.{foundOf, listed, firstDuplicate, dupl
 ghost use Rattle.index.specs.Order.{Index};
 
 // Whether no two records have one key: neighbours in the order differ.
-pub fn distinct(keys: &[u64], order: &[usize], n: usize) -> bool
+fn distinct(keys: &[u64], order: &[usize], n: usize) -> bool
     requires { ⌜ Index (now keys) (now order) n ⌝ }
     ensures { λ r. ⌜ r ≡ not (repeated (listed (now (keys .entry))) n) ⌝ }
 {
