@@ -1,20 +1,22 @@
 -- The laws of look-ups by a hint (specs/Hint.antt): what a guess says to those that ask for a record with a key.
 -- Assumes nothing.
 use Prim.Native.Nat.{ℕ, _+_, _<_, _≤_}
-use mathlib.Core.Bool.{Bool, true, false, not, _&&_}
+use mathlib.Core.Bool.{true}
+use mathlib.Core.Logic.{_⊎_, inl, inr, ⊎-elim}
 use mathlib.Core.List.{List}
-use mathlib.Core.Option.{none}
-use mathlib.Core.Path.{_≡_, refl, sym, ap, subst}
+use mathlib.Core.Path.{_≡_, refl, subst, _∙_}
+use native.Mathlib.Decide.{ℕ-discrete}
 use native.Mathlib.Omega.{arith}
 use lib.Dec.{eqb}
-use lib.ListN.{getD}
+use lib.ListN.{length, getD, set}
+use lib.Seq.{getD-set-same, getD-set-other}
 use borrow.Author.Count.{below-none, below-more}
-use borrow.Author.Tests.{eq-eqb, eqb-false}
-use Rattle.laws.specs.Find.{firstIndex, names}
-use Rattle.laws.proofs.FindLaws.{any-true, index-none, true-false}
+use borrow.Author.Tests.{eq-eqb}
+use Rattle.laws.specs.Find.{names}
+use Rattle.laws.proofs.FindLaws.{any-true}
 use Rattle.index.specs.Keys.{listed}
 use Rattle.index.specs.Look.{Sought}
-use Rattle.index.specs.Hint.{Guessed, Known, AllKnown}
+use Rattle.index.specs.Hint.{Hinted, Guessed, Known, AllKnown}
 use Rattle.index.specs.declared.Found.{Found}
 use Rattle.index.specs.declared.Found.the-variants.{At, Nothing}
 
@@ -43,45 +45,52 @@ module _ (keys : List ℕ) (n x : ℕ) where
       any-true (λ k. eqb (getD keys k 0) x) n (s .0) (eq-eqb (getD keys r 0) x (s .1))
 
 -- KNOWN
-module _ (keys : List ℕ) (n : ℕ) (blank : Bool) (x : ℕ) where
-  pub known-named : names (listed keys) n x ≡ true → Known keys n blank x
+module _ (keys : List ℕ) (n x : ℕ) where
+  pub known-named : names (listed keys) n x ≡ true → Known keys n x
   unfolding Known
   known-named e b = e
 
-  pub known-missing : blank ≡ true → x ≡ 0 → Known keys n blank x
+  pub known-missing : x ≡ 0 → Known keys n x
   unfolding Known
-  known-missing e q b = absurd (b e q)
+  known-missing q b = absurd (b q)
 
 -- a loop's: it holds of none, is kept by one more, and ends
-module _ (keys : List ℕ) (n : ℕ) (blank : Bool) (refs : List ℕ) where
-  pub all-known-none : AllKnown keys n blank refs 0
+module _ (keys : List ℕ) (n : ℕ) (refs : List ℕ) where
+  pub all-known-none : AllKnown keys n refs 0
   unfolding AllKnown
   all-known-none = below-none _
 
-  pub all-known-more : (i : ℕ) → AllKnown keys n blank refs i → Known keys n blank (getD refs i 0) → AllKnown keys n blank refs (i + 1)
+  pub all-known-more : (i : ℕ) → AllKnown keys n refs i → Known keys n (getD refs i 0) → AllKnown keys n refs (i + 1)
   unfolding AllKnown
   all-known-more i all here = below-more _ i all here
 
-  pub all-known-end : {i m : ℕ} → m ≤ i → AllKnown keys n blank refs i → AllKnown keys n blank refs m
+  pub all-known-end : {i m : ℕ} → m ≤ i → AllKnown keys n refs i → AllKnown keys n refs m
   unfolding AllKnown
   all-known-end u all k l = all k (omega arith)
 
--- what it says where none may be missing, and of those that aren't
-module _ (keys : List ℕ) (n : ℕ) (refs : List ℕ) (m : ℕ) where
-  pub known-in : AllKnown keys n false refs m → (i : ℕ) → i < m → names (listed keys) n (getD refs i 0) ≡ true
+  -- what it says of those that aren't missing
+  pub known-present : (m : ℕ) → AllKnown keys n refs m → (i : ℕ) → i < m → (getD refs i 0 ≡ 0 → ⊥) → names (listed keys) n (getD refs i 0) ≡ true
   unfolding Known AllKnown
-  known-in all i l = all i l (λ e q. true-false (sym e))
+  known-present m all i l ne = all i l ne
 
-  pub known-present : AllKnown keys n true refs m → (i : ℕ) → i < m → (getD refs i 0 ≡ 0 → ⊥) → names (listed keys) n (getD refs i 0) ≡ true
-  unfolding Known AllKnown
-  known-present all i l ne = all i l (λ e q. ne q)
+-- A TABLE OF HINTS: nothing put, one put, and more after them
+pub hinted-none : (hints : List ℕ) (n : ℕ) → Hinted hints hints n
+unfolding Hinted
+hinted-none hints n k = inl refl
 
--- no name dangles where each that isn't missing is a key
-pub none-dangles :
-    (keys refs : List ℕ) (n m : ℕ) → ((i : ℕ) → i < m → (getD refs i 0 ≡ 0 → ⊥) → names (listed keys) n (getD refs i 0) ≡ true)
-    → firstIndex (λ i. not (eqb (getD refs i 0) 0) && not (names (listed keys) n (getD refs i 0))) m ≡ none
-none-dangles keys refs n m all = index-none _ m (λ i l. go i l (eqb (getD refs i 0) 0) refl)
+pub hinted-one : (hints : List ℕ) (at x : ℕ) → at < length hints → Hinted hints (set hints at x) x
+unfolding Hinted
+hinted-one hints at x l k = go (ℕ-discrete k at)
   where
-    go : (i : ℕ) → i < m → (t : Bool) → eqb (getD refs i 0) 0 ≡ t → (not t && not (names (listed keys) n (getD refs i 0))) ≡ false
-    go i l true e = refl
-    go i l false e = ap not (all i l (eqb-false (getD refs i 0) 0 e))
+    go : Dec (k ≡ at) → (getD (set hints at x) k 0 ≡ getD hints k 0) ⊎ (getD (set hints at x) k 0 ≤ x)
+    go (yes e) = inr (rw (e, getD-set-same hints at x 0 l) (omega arith))
+    go (no h) = inl (getD-set-other hints at k x 0 h)
+
+pub hinted-more : (before now after : List ℕ) (x n : ℕ) → x ≤ n → Hinted before now n → Hinted now after x → Hinted before after n
+unfolding Hinted
+hinted-more before now after x n l p q k =
+    ⊎-elim
+    (λ (e : getD after k 0 ≡ getD now k 0).
+    ⊎-elim (λ (f : getD now k 0 ≡ getD before k 0). inl (e ∙ f)) (λ (f : getD now k 0 ≤ n). inr (rw e f)) (p k))
+    (λ (e : getD after k 0 ≤ x). inr (omega arith))
+    (q k)

@@ -1,6 +1,6 @@
 // A table of guesses: where records with a key may stand. It makes a look-up of a key that is there ten times quicker than halving.
 //
-// Why filling promises nothing: a guess is tested against the key itself before it is given, so a table with anything in it gives right
+// Why filling promises little: a guess is tested against the key itself before it is given, so a table with anything in it gives right
 // records or none. A place has the record's number, counted from 1, or 0 where it is empty. The places for a key start at its remainder
 // by a prime and go on by steps that start anywhere and grow, so that keys in rows, of which files are full, soon find a free place.
 use crate::Found;
@@ -15,7 +15,7 @@ ghost use Rattle.laws.specs.Find.{names};
 ghost use Rattle.index.specs.Keys.{listed};
 ghost use Rattle.index.specs.Order.{Index};
 ghost use Rattle.index.specs.Look.{Sought};
-ghost use Rattle.index.specs.Hint.{Guessed, Known, AllKnown};
+ghost use Rattle.index.specs.Hint.{Hinted, Guessed, Known, AllKnown};
 
 // A place's hint; 0 past the end.
 fn hint_at(hints: &[u16], at: usize) -> usize {
@@ -43,7 +43,9 @@ fn slot(keys: &[u64], hints: &[u16], x: u64) -> usize {
 }
 
 // An empty place gets a hint.
-fn put(hints: &mut [u16], at: usize, hint: u16) {
+fn put(hints: &mut [u16], at: usize, hint: u16)
+    ensures { λ _. ⌜ Hinted (now (hints .entry)) (now (hints .exit)) hint ⌝ }
+{
     if at < hints.len() {
         if hints[at] == 0 {
             hints[at] = hint;
@@ -53,7 +55,9 @@ fn put(hints: &mut [u16], at: usize, hint: u16) {
 
 // Hints of the first `n` keys, in a table that is lent empty: 32,768 places serve 16,384 keys. Of records with one key only one has a
 // hint, and none has where the places for its key are taken, or `n` is above 65,535.
-pub fn fill_hints(keys: &[u64], hints: &mut [u16], n: usize) {
+pub fn fill_hints(keys: &[u64], hints: &mut [u16], n: usize)
+    ensures { λ _. ⌜ Hinted (now (hints .entry)) (now (hints .exit)) n ⌝ }
+{
     if 65535 < n {
         return;
     }
@@ -120,33 +124,24 @@ pub fn has_hinted<'a>(
     if let Found::At(_) = f { true } else { false }
 }
 
-// Whether a guess finds x, or x is missing and may be.
-fn is_known<'a>(keys: &'a [u64], hints: &'a [u16], n: usize, blank: bool, x: u64) -> bool
-    ensures { λ r. ⌜ (r ≡ true → Known (now (keys .entry)) n blank x) ⌝ }
+// Whether x is missing, or a guess finds it.
+fn is_known(keys: &[u64], hints: &[u16], n: usize, x: u64) -> bool
+    ensures { λ r. ⌜ (r ≡ true → Known (now (keys .entry)) n x) ⌝ }
 {
-    if blank {
-        if x == 0 {
-            return true;
-        }
+    if x == 0 {
+        return true;
     }
     let f = guess(keys, hints, n, x);
     if let Found::At(_) = f { true } else { false }
 }
 
-fn all_known<'a>(
-    refs: &'a [u64],
-    m: usize,
-    keys: &'a [u64],
-    hints: &'a [u16],
-    n: usize,
-    blank: bool,
-) -> bool
+fn all_known<'a>(refs: &'a [u64], m: usize, keys: &'a [u64], hints: &'a [u16], n: usize) -> bool
     requires { ⌜ m ≤ length (now refs) ⌝ }
-    ensures { λ r. ⌜ (r ≡ true → AllKnown (now (keys .entry)) n blank (now (refs .entry)) m) ⌝ }
+    ensures { λ r. ⌜ (r ≡ true → AllKnown (now (keys .entry)) n (now (refs .entry)) m) ⌝ }
 {
     let mut i = 0;
     while i < m {
-        if is_known(keys, hints, n, blank, refs[i]) {
+        if is_known(keys, hints, n, refs[i]) {
             i += 1;
         } else {
             return false;
@@ -155,27 +150,14 @@ fn all_known<'a>(
     true
 }
 
-fn shown_known<'a>(refs: &'a [u64], m: usize, keys: &'a [u64], n: usize, blank: bool) -> bool
-    ensures { λ r. ⌜ (r ≡ true → AllKnown (now (keys .entry)) n blank (now (refs .entry)) m) ⌝ }
+// Whether hints show that each of `m` names that isn't missing is one of `n` keys. False says nothing.
+pub fn all_present_in<'a>(refs: &'a [u64], m: usize, keys: &'a [u64], n: usize) -> bool
+    ensures { λ r. ⌜ (r ≡ true → (i : ℕ) → i < m → (getD (now (refs .entry)) i 0 ≡ 0 → ⊥) → names (listed (now (keys .entry))) n (getD (now (refs .entry)) i 0) ≡ true) ⌝ }
 {
     if refs.len() < m {
         return false;
     }
     let mut hints = [0u16; 32768];
     fill_hints(keys, &mut hints, n);
-    all_known(refs, m, keys, &hints, n, blank)
-}
-
-// Whether hints show that each of `m` names is one of `n` keys. False says nothing.
-pub fn all_in<'a>(refs: &'a [u64], m: usize, keys: &'a [u64], n: usize) -> bool
-    ensures { λ r. ⌜ (r ≡ true → (i : ℕ) → i < m → names (listed (now (keys .entry))) n (getD (now (refs .entry)) i 0) ≡ true) ⌝ }
-{
-    shown_known(refs, m, keys, n, false)
-}
-
-// The same of the names that are not missing.
-pub fn all_present_in<'a>(refs: &'a [u64], m: usize, keys: &'a [u64], n: usize) -> bool
-    ensures { λ r. ⌜ (r ≡ true → (i : ℕ) → i < m → (getD (now (refs .entry)) i 0 ≡ 0 → ⊥) → names (listed (now (keys .entry))) n (getD (now (refs .entry)) i 0) ≡ true) ⌝ }
-{
-    shown_known(refs, m, keys, n, true)
+    all_known(refs, m, keys, &hints, n)
 }

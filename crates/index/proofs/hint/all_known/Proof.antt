@@ -11,13 +11,13 @@ use Rattle.index.proofs.hint.all_known.Statement.{statement}
 use Rattle.index.proofs.hint.all_known.Tie as tie
 
 abbrev Inv-loop : tie.InvT-loop
-Inv-loop refs m keys hints n blank i₀ i = (i ≤ m) × AllKnown keys n blank refs i
+Inv-loop refs m keys hints n i₀ i = (i ≤ m) × AllKnown keys n refs i
 
 abbrev μ-loop : tie.MeasureT-loop
-μ-loop refs m keys hints n blank i₀ i = m - i
+μ-loop refs m keys hints n i₀ i = m - i
 
 loop-holds : tie.Need-loop-holds Inv-loop μ-loop
-loop-holds c = (omega arith, all-known-none _ _ _ _)
+loop-holds c = (omega arith, all-known-none _ _ _)
 
 mul-is-known : tie.Need-mul-is-known Inv-loop μ-loop
 mul-is-known c = search needs
@@ -35,13 +35,13 @@ loop-less : tie.Need-loop-less Inv-loop μ-loop
 loop-less c = search needs
 
 loop-again : tie.Need-loop-again Inv-loop μ-loop
-loop-again c = (omega arith, all-known-more _ _ _ _ _ (c .before .before .before .before .loop .inv .1) (c .before .is-known .ensures (c .if1 .taken)))
+loop-again c = (omega arith, all-known-more _ _ _ _ (c .before .before .before .before .loop .inv .1) (c .before .is-known .ensures (c .if1 .taken)))
 
 returns : tie.Need-returns Inv-loop μ-loop
 returns c = λ e. absurd (true-false (sym e))
 
 returns-2 : tie.Need-returns-2 Inv-loop μ-loop
-returns-2 c = λ e. all-known-end _ _ _ _ (c .loop-test .left) (c .before .loop .inv .1)
+returns-2 c = λ e. all-known-end _ _ _ (c .loop-test .left) (c .before .loop .inv .1)
 
 pub all-known-spec : {M : Type 1} → statement M
 all-known-spec =

@@ -8,7 +8,7 @@ use Rattle.index.proofs.hint.is_known.Statement.{statement}
 use Rattle.index.proofs.hint.is_known.Tie as tie
 
 returns : tie.Need-returns
-returns c = λ e. known-missing _ _ _ _ (c .before .if1 .taken) (c .if2 .taken)
+returns c = λ e. known-missing _ _ _ (c .if1 .taken)
 
 guess-requires : tie.Need-guess-requires
 guess-requires c κs = search needs
@@ -20,7 +20,7 @@ enum-told-2 : tie.Need-enum-told-2
 enum-told-2 c = search needs
 
 returns-2 : tie.Need-returns-2
-returns-2 c = λ e. known-named _ _ _ _ (guessed-named _ _ _ (c .before .before .guess .ensures) (c .enum-told .given .1))
+returns-2 c = λ e. known-named _ _ _ (guessed-named _ _ _ (c .before .before .guess .ensures) (c .enum-told .given .1))
 
 returns-3 : tie.Need-returns-3
 returns-3 c = λ e. absurd (true-false (sym e))
