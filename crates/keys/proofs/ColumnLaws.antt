@@ -1,18 +1,32 @@
--- The loops that read a column into an array (specs/Columns.antt): what is read so far, from the start to the end. The first repeat in it.
+-- The loops that read a column into an array (specs/Columns.antt): what is read so far, from the start to the end, and what is cut of each
+-- record. The first repeat in it.
 -- Assumes nothing.
-use Prim.Native.Nat.{ℕ, _+_, _≤_, _<_}
-use mathlib.Core.List.{List}
-use mathlib.Core.Path.{_≡_, refl, ap, _∙_}
+use Prim.Native.Nat.{ℕ, _+_, _-_, _*_, _≤_, _<_, min}
+use mathlib.Core.List.{List, []}
+use mathlib.Core.Path.{_≡_, refl, sym, ap, _∙_}
+use native.Mathlib.Nat.{min-le-right, suc-mul}
+use native.Mathlib.Numerals.{add-one}
 use native.Mathlib.Omega.{arith}
 use borrow.Author.Count.{below-none, below-more}
-use lib.ListN.{length, getD, set, length-set}
+use lib.ListN.{length, getD, set, take, drop, length-set}
 use lib.Seq.{getD-set-same, getD-set-other}
 use Rattle.laws.specs.Find.{firstIndex}
+use Rattle.record.specs.declared.kind.Kind.{Kind}
+use Rattle.record.specs.declared.kind.Kind.the-variants.{Vertice}
+use Rattle.record.specs.declared.kind.Form.{Form}
+use Rattle.record.specs.Table.{limit, lengthOf, formAt, offsetAt, widthAt}
+use Rattle.record.specs.Cut.{countOf, recordOf, textOf}
+use Rattle.record.specs.Says.{saidAs, saidIn, tableOf, numberIn, keyIn, letterIn, placeIn}
+use Rattle.record.proofs.TableLaws.{sane}
+use Rattle.record.proofs.CutLaws.{record-field}
+use Rattle.record.proofs.SaysLaws.{number-before, key-before, letter-before}
 use Rattle.index.specs.declared.Found.{Found}
 use Rattle.index.specs.Keys.{foundOf, duplicateIn}
 use Rattle.index.proofs.TwiceLaws.{Filled, duplicate-fits, duplicate-filled}
 use Rattle.keys.specs.Columns.{Fills, ReadInto}
+use Rattle.keys.specs.Delivery.{nameAt, keyOf}
 use Rattle.keys.specs.Rules.{repeats}
+use Rattle.keys.proofs.NameLaws.{Among, noVertice, key-name}
 
 -- the loop's invariant: of the column's n numbers, the first i are in the room, and the rest of it is as before
 pub record Filling (column : ℕ → ℕ) (n : ℕ) (before out : List ℕ) (i : ℕ) : Type 0 where
@@ -72,3 +86,65 @@ pub repeat-filled : {out : List ℕ} (column : ℕ → ℕ) {n r : ℕ} {found :
 unfolding repeats
 repeat-filled {out} column {n} {r} f h =
     h ∙ ap foundOf (duplicate-fits out r (omega (arith, f .small, f .long, f .count))) ∙ rw (f .count) (ap foundOf (duplicate-filled column out n (f .holds)))
+
+-- WHERE RECORD i STARTS, and that it is near enough for sums to fit
+pub record Starts (k : Kind) (i at : ℕ) : Type 0 where
+  pub here : at ≡ i * lengthOf k
+  pub near : at ≤ 149 * i
+
+pub starts-first : (k : Kind) → Starts k 0 0
+starts-first k = record { here = omega arith; near = omega arith }
+
+pub starts-next : {k : Kind} {i at len : ℕ} → Starts k i at → len ≡ lengthOf k → Starts k (i + 1) (at + len)
+starts-next {k} {i} {at} {len} h e = record { here = rw (e, h .here) (sym (next-mul i (lengthOf k))); near = omega (arith, sane k) }
+  where
+    next-mul : (a b : ℕ) → (a + 1) * b ≡ a * b + b
+    next-mul a b = rw (add-one, suc-mul)
+
+-- WHAT IS CUT of a field of a record of the file's table
+module _ (s : List ℕ) (k : Kind) {n i : ℕ} (e : n ≡ min limit (countOf s k)) (l : i < n) where
+  counted : i < countOf s k
+  counted = omega (arith, min-le-right limit (countOf s k))
+
+  pub cut-field : {at : ℕ} → Starts k i at → (f o w : ℕ) (t : List ℕ) → o ≡ offsetAt k f → w ≡ widthAt k f → t ≡ take w (drop (at + o) s) → t ≡ textOf (recordOf s k i) k f
+  cut-field h f o w t p q r = r ∙ record-field s k i counted f (h .here) p q
+
+-- and what is said there
+module _ (s : List ℕ) (k : Kind) (i f : ℕ) {form : Form} {t : List ℕ} (p : form ≡ formAt k f) (q : t ≡ textOf (recordOf s k i) k f) where
+  pub key-cut : {x : ℕ} → x ≡ keyIn (saidAs form t []) → x ≡ keyIn (tableOf s k .says i f)
+  unfolding saidIn
+  key-cut e = e ∙ rw (p, q) (key-before _ _ _ _)
+
+  pub number-cut : {x : ℕ} → x ≡ numberIn (saidAs form t []) → x ≡ numberIn (tableOf s k .says i f)
+  unfolding saidIn
+  number-cut e = e ∙ rw (p, q) (number-before _ _ _ _)
+
+  pub letter-cut : {x : ℕ} → x ≡ letterIn (saidAs form t []) → x ≡ letterIn (tableOf s k .says i f)
+  unfolding saidIn
+  letter-cut e = e ∙ rw (p, q) (letter-before _ _ _ _)
+
+  pub place-cut : {b : List ℕ} → b ≡ textOf (recordOf s k i) k (f - 1) → {x : ℕ} → x ≡ placeIn (saidAs form t b) → x ≡ placeIn (tableOf s k .says i f)
+  unfolding saidIn
+  place-cut r e = e ∙ rw (p, q, r)
+
+-- a column that is the same number by number
+read-same : {before out : List ℕ} {column : ℕ → ℕ} (other : ℕ → ℕ) {n r : ℕ} → ((i : ℕ) → column i ≡ other i) → ReadInto before out column n r → ReadInto before out other n r
+read-same other same h =
+    record {
+      small = h .small;
+      fits = h .fits;
+      short = h .short;
+      long = h .long;
+      holds = λ i l. h .holds i l ∙ same i;
+      rest = h .rest;
+    }
+
+-- KEYS are those of vertices, and else names
+module _ {before out : List ℕ} (s : List ℕ) {r : ℕ} where
+  pub keys-vertices : {k : Kind} → k ≡ Vertice → ReadInto before out (λ i. keyOf Vertice (tableOf s Vertice) i) (tableOf s Vertice .count) r
+      → ReadInto before out (λ i. keyOf k (tableOf s k) i) (tableOf s k .count) r
+  keys-vertices e h = rw e h
+
+  pub keys-names : (k : Kind) → Among noVertice k → ReadInto before out (λ i. nameAt k (tableOf s k) i 1) (tableOf s k .count) r
+      → ReadInto before out (λ i. keyOf k (tableOf s k) i) (tableOf s k .count) r
+  keys-names k a h = read-same (λ i. keyOf k (tableOf s k) i) (λ i. key-name (tableOf s k) i k a) h

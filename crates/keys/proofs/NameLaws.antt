@@ -1,19 +1,22 @@
 -- How records are named (specs/Delivery.antt), as the code reads it: what a field refers to, a tramo's own line, keys.
 -- Assumes nothing.
 use Prim.Native.Nat.{ℕ, _+_, _*_}
-use mathlib.Core.Bool.{Bool, true, false}
+use mathlib.Core.Bool.{Bool, true, false, _&&_, and-false}
 use mathlib.Core.List.{List, [], _∷_}
-use mathlib.Core.Path.{_≡_, refl}
+use mathlib.Core.Path.{_≡_, refl, sym, ap, _∙_}
+use native.Mathlib.Decide.{ℕ-discrete}
 use native.Mathlib.Omega.{arith}
 use denote.Enum.Declared.{tagOf}
 use types.Run.{OneOf, miss}
 use borrow.Author.Tests.{ne-eqb}
+use lib.Dec.{eqb}
 use lib.ListN.{length, drop}
 use Rattle.laws.specs.Row.{pick}
 use Rattle.record.specs.declared.kind.Kind.{Kind}
 use Rattle.record.specs.declared.kind.Kind.the-variants.{Catalogo, ObPun, ObTex, ObLin, Tramo, Vertice, Nodo}
-use Rattle.record.specs.Table.{colAt, formAt}
-use Rattle.record.specs.Says.{Table, saidIn, tableOf, isMissing, numberIn, keyIn}
+use Rattle.record.specs.declared.kind.Form.{Form}
+use Rattle.record.specs.Table.{colAt, formAt, isN}
+use Rattle.record.specs.Says.{Said, missing, number, text, coordinate, Table, saidIn, tableOf, isMissing, numberIn, keyIn}
 use Rattle.record.proofs.SaysLaws.{number-key}
 use Rattle.record.proofs.TableLaws.{NoneOf, numbers, after, default-at}
 use Rattle.record.proofs.kind.Kind.{the-type}
@@ -58,6 +61,27 @@ module _ (t : Table) (i : ℕ) where
   unfolding nameAt
   name-said k f e h q = rw (← e, h) q
 
+  -- and from what is said there as one number, where that is something
+  pub name-there : (k : Kind) (f : ℕ) {x : ℕ} → x ≡ keyIn (t .says i f) → (x ≡ 0 → ⊥) → x ≡ nameAt k t i f
+  unfolding nameAt
+  name-there Catalogo f e h = e
+  name-there ObPun f e h = e
+  name-there ObTex f e h = e
+  name-there ObLin f e h = e
+  name-there Tramo f {x} e h = go (ℕ-discrete f 4)
+    where
+      gone : (y : Said) → keyIn y ≡ x → isMissing y ≡ false
+      gone missing q = absurd (h (sym q))
+      gone (number n) q = refl
+      gone (text u) q = refl
+      gone (coordinate z) q = refl
+
+      go : Dec (f ≡ 4) → x ≡ pick (eqb f 4 && isMissing (t .says i 4)) (keyIn (t .says i 1)) (keyIn (t .says i f))
+      go (yes q) = rw (gone (t .says i 4) (ap (λ (g : ℕ). keyIn (t .says i g)) (sym q) ∙ sym e), and-false) e
+      go (no q) = rw (ne-eqb f 4 q) e
+  name-there Vertice f e h = e
+  name-there Nodo f e h = e
+
   -- KEYS: a name, but of a vertex
   pub key-name : (k : Kind) → Among noVertice k → nameAt k t i 1 ≡ keyOf k t i
   unfolding keyOf
@@ -84,3 +108,14 @@ module _ (s : List ℕ) (i : ℕ) where
       → order ≡ numberIn (tableOf s Vertice .says i 2) → (line + 1) * 100000 + order ≡ keyOf Vertice (tableOf s Vertice) i
   unfolding keyOf nameAt
   key-line e h l o = rw (line-name, ← e, h, l, o)
+
+  -- and from what is said as one number
+  pub key-vertex : {line order : ℕ} → line ≡ keyIn (tableOf s Vertice .says i 1) → order ≡ numberIn (tableOf s Vertice .says i 2)
+      → line * 100000 + order ≡ keyOf Vertice (tableOf s Vertice) i
+  unfolding keyOf nameAt
+  key-vertex l o = rw (l, o)
+
+-- the line is a number
+pub line-form : {form : Form} → form ≡ formAt Vertice 1 → isN form ≡ true
+unfolding formAt colAt
+line-form e = rw e

@@ -1,14 +1,27 @@
 // Columns of names, keys, places and letters, read once into lent room. Where the room is too short for the file's records, none is read.
+//
+// Where a field stands in its record is looked up once for a column, and not once for a record: `at` is where the record in hand starts.
 use crate::names::name;
-use crate::names::record_key;
-use record::columns::letter;
-use record::columns::place;
+use record::columns::key_in;
+use record::columns::letter_in;
+use record::columns::number_in;
+use record::columns::place_in;
 use record::columns::rows;
+use record::cut::part;
 use record::kind::Kind;
-ghost use Prim.Native.Nat.{ℕ};
-ghost use Rattle.record.specs.Says.{tableOf, placeIn, letterIn};
+ghost use mathlib.Core.Path.{_≡_};
+ghost use Prim.Native.Nat.{ℕ, _-_};
+ghost use Rattle.record.specs.Says.{tableOf, keyIn, placeIn, letterIn};
 ghost use Rattle.keys.specs.Delivery.{nameAt, keyOf};
 ghost use Rattle.keys.specs.Columns.{ReadInto};
+
+// What field f of record i names, where x is what is said there as one number. Where nothing is said it may be a tramo's own line.
+fn name_by(s: &[u8], k: Kind, i: usize, f: usize, x: u64) -> u64
+    requires { ⌜ x ≡ keyIn (tableOf (now s) k .says i f) ⌝ }
+    ensures { λ r. ⌜ r ≡ nameAt k (tableOf (now (s .entry)) k) i f ⌝ }
+{
+    if x == 0 { name(s, k, i, f) } else { x }
+}
 
 // What field f names in each record of the file.
 pub fn fill_names(s: &[u8], k: Kind, f: usize, out: &mut [u64]) -> usize
@@ -18,9 +31,42 @@ pub fn fill_names(s: &[u8], k: Kind, f: usize, out: &mut [u64]) -> usize
     if out.len() < n {
         return 0;
     }
+    let form = k.form(f);
+    let offset = k.offset(f);
+    let width = k.width(f);
+    let mut at = 0;
     let mut i = 0;
     while i < n {
-        out[i] = name(s, k, i, f);
+        let x = key_in(form, part(s, at + offset, width));
+        out[i] = name_by(s, k, i, f, x);
+        at += k.length();
+        i += 1;
+    }
+    n
+}
+
+// The line and the order of each vertex, as one number.
+fn fill_vertex_keys(s: &[u8], out: &mut [u64]) -> usize
+    ensures { λ r. ⌜ ReadInto (now (out .entry)) (now (out .exit)) (λ i. keyOf Kind.Vertice (tableOf (now (s .entry)) Kind.Vertice) i) (tableOf (now (s .entry)) Kind.Vertice .count) r ⌝ }
+{
+    let k = Kind::Vertice;
+    let n = rows(s, k);
+    if out.len() < n {
+        return 0;
+    }
+    let form = k.form(1);
+    let offset = k.offset(1);
+    let width = k.width(1);
+    let order_form = k.form(2);
+    let order_offset = k.offset(2);
+    let order_width = k.width(2);
+    let mut at = 0;
+    let mut i = 0;
+    while i < n {
+        let line = key_in(form, part(s, at + offset, width));
+        let order = number_in(order_form, part(s, at + order_offset, order_width));
+        out[i] = line * 100000 + order;
+        at += k.length();
         i += 1;
     }
     n
@@ -30,16 +76,17 @@ pub fn fill_names(s: &[u8], k: Kind, f: usize, out: &mut [u64]) -> usize
 pub fn fill_keys(s: &[u8], k: Kind, out: &mut [u64]) -> usize
     ensures { λ r. ⌜ ReadInto (now (out .entry)) (now (out .exit)) (λ i. keyOf k (tableOf (now (s .entry)) k) i) (tableOf (now (s .entry)) k .count) r ⌝ }
 {
-    let n = rows(s, k);
-    if out.len() < n {
-        return 0;
+    match k {
+        Kind::Vertice => fill_vertex_keys(s, out),
+        _ => fill_names(s, k, 1, out),
     }
-    let mut i = 0;
-    while i < n {
-        out[i] = record_key(s, k, i);
-        i += 1;
-    }
-    n
+}
+
+// The field of a coordinate's sign, which is the one before.
+fn sign_field(f: usize) -> usize
+    ensures { λ r. ⌜ r ≡ f - 1 ⌝ }
+{
+    if 0 < f { f - 1 } else { 0 }
 }
 
 // What is said as a place (a coordinate as one number) in field f of each record of the file.
@@ -50,9 +97,18 @@ pub fn fill_places(s: &[u8], k: Kind, f: usize, out: &mut [u64]) -> usize
     if out.len() < n {
         return 0;
     }
+    let g = sign_field(f);
+    let form = k.form(f);
+    let offset = k.offset(f);
+    let width = k.width(f);
+    let sign = k.offset(g);
+    let sign_width = k.width(g);
+    let mut at = 0;
     let mut i = 0;
     while i < n {
-        out[i] = place(s, k, i, f);
+        let b = part(s, at + sign, sign_width);
+        out[i] = place_in(form, part(s, at + offset, width), b);
+        at += k.length();
         i += 1;
     }
     n
@@ -66,9 +122,14 @@ pub fn fill_letters(s: &[u8], k: Kind, f: usize, out: &mut [u64]) -> usize
     if out.len() < n {
         return 0;
     }
+    let form = k.form(f);
+    let offset = k.offset(f);
+    let width = k.width(f);
+    let mut at = 0;
     let mut i = 0;
     while i < n {
-        out[i] = letter(s, k, i, f) as u64;
+        out[i] = letter_in(form, part(s, at + offset, width)) as u64;
+        at += k.length();
         i += 1;
     }
     n

@@ -1,17 +1,17 @@
 -- The laws of cutting: parts of a list, the records of a file (specs/Cut.antt).
 -- Assumes nothing.
-use Prim.Native.Nat.{ℕ, _+_, _-_, _*_, _≤_, _<_}
-use mathlib.Core.List.{List, []}
+use Prim.Native.Nat.{ℕ, zero, suc, _+_, _-_, _*_, _≤_, _<_}
+use mathlib.Core.List.{List, [], _∷_}
 use mathlib.Core.Path.{_≡_, refl, sym, _∙_}
 use native.Mathlib.Nat.{le-div-iff-mul-le, suc-mul}
 use native.Mathlib.Omega.{arith}
 use lib.ListN.{length, take, drop, length-take, length-drop, drop-of-length-le}
-use lib.Seq.{take-all, take-nil}
+use lib.Seq.{take-all, take-nil, take-take, drop-drop}
 use borrow.Author.Tests.{lt-ltb, le-ltb}
 use Rattle.record.specs.declared.kind.Kind.{Kind}
-use Rattle.record.specs.Table.{lengthOf}
-use Rattle.record.specs.Cut.{countOf, recordOf}
-use Rattle.record.proofs.TableLaws.{sane}
+use Rattle.record.specs.Table.{lengthOf, widthAt, offsetAt}
+use Rattle.record.specs.Cut.{countOf, recordOf, textOf}
+use Rattle.record.proofs.TableLaws.{sane, within}
 
 -- PARTS: past the end there is nothing,
 pub part-past : (n a : ℕ) (s : List ℕ) → length s < a → [] ≡ take n (drop a s)
@@ -22,6 +22,13 @@ pub part-left : (n a : ℕ) (s : List ℕ) → length s - a < n → take (length
 part-left n a s h =
     let l = length-drop a s in
     take-all (length s - a) (drop a s) (omega arith) ∙ sym (take-all n (drop a s) (omega arith))
+
+-- a part of the first n is one of the whole
+part-first : (w o n : ℕ) (s : List ℕ) → o + w ≤ n → take w (drop o (take n s)) ≡ take w (drop o s)
+part-first w zero n s h = take-take w n s (omega arith)
+part-first w (suc o) zero s h = absurd (omega arith)
+part-first w (suc o) (suc n) [] h = refl
+part-first w (suc o) (suc n) (x ∷ s) h = part-first w o n s (omega arith)
 
 -- RECORDS: past the last there are none
 pub record-past : (s : List ℕ) (k : Kind) (i : ℕ) → countOf s k ≤ i → recordOf s k i ≡ []
@@ -48,3 +55,10 @@ module _ (s : List ℕ) (k : Kind) (i : ℕ) (h : i < countOf s k) where
   record-long =
       let w = record-within in
       rw (← record-part {n = lengthOf k} refl, length-take, length-drop) (omega arith)
+
+  -- a field of it is a part of the file, where the code knows where the record starts and what the table has of the field
+  pub record-field : (f : ℕ) {at o w : ℕ} → at ≡ i * lengthOf k → o ≡ offsetAt k f → w ≡ widthAt k f → take w (drop (at + o) s) ≡ textOf (recordOf s k i) k f
+  unfolding textOf
+  record-field f {at} {o} {w} p q e =
+      let l = within k f in
+      rw (p, ← q, ← e, ← record-part {n = lengthOf k} refl, part-first w o (lengthOf k) (drop (i * lengthOf k) s) (omega arith), drop-drop)

@@ -188,6 +188,33 @@ module _ (t b : List ℕ) where
       let w = text-there form h m in
       sym (trimmed-first t (trimmed-some t (w .0))) ∙ ap letterIn (sym (w .1))
 
+-- THE FIELD BEFORE matters to none that has the same of every coordinate
+said-before : {A : Type 0} (g : Said → A) → ((y z : ℤ) → g (coordinate y) ≡ g (coordinate z)) → (form : Form) (t b c : List ℕ) → g (saidAs form t b) ≡ g (saidAs form t c)
+unfolding saidAs
+said-before g h Words t b c = refl
+said-before g h Code t b c = refl
+said-before g h Tipo t b c = refl
+said-before g h Sense t b c = refl
+said-before g h Sign t b c = refl
+said-before g h Number t b c = refl
+said-before {A} g h Size t b c = go (allOf Blank t) _ _
+  where
+    go : (blank : Bool) (y z : ℤ) → g (pick blank missing (coordinate y)) ≡ g (pick blank missing (coordinate z))
+    go true y z = refl
+    go false y z = h y z
+
+pub missing-before : (form : Form) (t b c : List ℕ) → isMissing (saidAs form t b) ≡ isMissing (saidAs form t c)
+missing-before = said-before isMissing (λ y z. refl)
+
+pub number-before : (form : Form) (t b c : List ℕ) → numberIn (saidAs form t b) ≡ numberIn (saidAs form t c)
+number-before = said-before numberIn (λ y z. refl)
+
+pub key-before : (form : Form) (t b c : List ℕ) → keyIn (saidAs form t b) ≡ keyIn (saidAs form t c)
+key-before = said-before keyIn (λ y z. refl)
+
+pub letter-before : (form : Form) (t b c : List ℕ) → letterIn (saidAs form t b) ≡ letterIn (saidAs form t c)
+letter-before = said-before letterIn (λ y z. refl)
+
 -- a text is no number
 pub text-no-n : (form : Form) → Among texts form → isN form ≡ true → ⊥
 text-no-n Words h e = true-false (sym e)

@@ -12,13 +12,15 @@ use field::number::get_number;
 use field::words::word;
 ghost use mathlib.Core.Path.{_≡_};
 ghost use mathlib.Core.Bool.{true};
+ghost use mathlib.Core.List.{[]};
 ghost use Prim.Native.Nat.{ℕ, _+_, _<_, _≤_, _^_, _-_};
 ghost use Rattle.record.specs.Table.{formAt, isN};
 ghost use Rattle.record.specs.Cut.{textOf};
 ghost use Rattle.record.specs.Says.{saidIn, saidAs, tableOf, isMissing, numberIn, coordinateIn, keyIn, letterIn, placeIn};
 
-fn is_missing_in(form: Form, t: &[u8], b: &[u8]) -> bool
-    ensures { λ r. ⌜ r ≡ isMissing (saidAs form (now (t .entry)) (now (b .entry))) ⌝ }
+// What is said in a field of a form, by its bytes. Only of a coordinate's size the bytes before it matter, which are its sign.
+fn is_missing_in(form: Form, t: &[u8]) -> bool
+    ensures { λ r. ⌜ r ≡ isMissing (saidAs form (now (t .entry)) []) ⌝ }
 {
     match form {
         Form::Sign => true,
@@ -26,8 +28,8 @@ fn is_missing_in(form: Form, t: &[u8], b: &[u8]) -> bool
     }
 }
 
-fn number_in(form: Form, t: &[u8], b: &[u8]) -> u64
-    ensures { λ r. ⌜ r ≡ numberIn (saidAs form (now (t .entry)) (now (b .entry))) ⌝ }
+pub fn number_in(form: Form, t: &[u8]) -> u64
+    ensures { λ r. ⌜ r ≡ numberIn (saidAs form (now (t .entry)) []) ⌝ }
     ensures small { λ r. ⌜ r < 2 ^ 38 ⌝ }
 {
     match form {
@@ -45,11 +47,12 @@ fn coordinate_in(form: Form, t: &[u8], b: &[u8]) -> i64
     }
 }
 
-fn key_in(form: Form, t: &[u8], b: &[u8]) -> u64
-    ensures { λ r. ⌜ r ≡ keyIn (saidAs form (now (t .entry)) (now (b .entry))) ⌝ }
+// What is said as one number.
+pub fn key_in(form: Form, t: &[u8]) -> u64
+    ensures { λ r. ⌜ r ≡ keyIn (saidAs form (now (t .entry)) []) ⌝ }
     ensures narrow { λ r. ⌜ (isN form ≡ true → r ≤ 2 ^ 38) ⌝ }
 {
-    if is_missing_in(form, t, b) {
+    if is_missing_in(form, t) {
         return 0;
     }
     match form {
@@ -60,10 +63,10 @@ fn key_in(form: Form, t: &[u8], b: &[u8]) -> u64
     }
 }
 
-fn letter_in(form: Form, t: &[u8], b: &[u8]) -> u8
-    ensures { λ r. ⌜ r ≡ letterIn (saidAs form (now (t .entry)) (now (b .entry))) ⌝ }
+pub fn letter_in(form: Form, t: &[u8]) -> u8
+    ensures { λ r. ⌜ r ≡ letterIn (saidAs form (now (t .entry)) []) ⌝ }
 {
-    if is_missing_in(form, t, b) {
+    if is_missing_in(form, t) {
         return 0;
     }
     match form {
@@ -75,11 +78,11 @@ fn letter_in(form: Form, t: &[u8], b: &[u8]) -> u8
 }
 
 // The coordinate as one number, by which places are compared.
-fn place_in(form: Form, t: &[u8], b: &[u8]) -> u64
+pub fn place_in(form: Form, t: &[u8], b: &[u8]) -> u64
     ensures { λ r. ⌜ r ≡ placeIn (saidAs form (now (t .entry)) (now (b .entry))) ⌝ }
     ensures narrow { λ r. ⌜ r < 2 ^ 40 ⌝ }
 {
-    if is_missing_in(form, t, b) {
+    if is_missing_in(form, t) {
         return 0;
     }
     match form {
@@ -108,16 +111,14 @@ fn field_before(rec: &[u8], k: Kind, f: usize) -> &[u8]
 pub fn is_missing(s: &[u8], k: Kind, i: usize, f: usize) -> bool
     ensures { λ r. ⌜ r ≡ isMissing (tableOf (now (s .entry)) k .says i f) ⌝ }
 {
-    let rec = record_bytes(s, k, i);
-    is_missing_in(k.form(f), field(rec, k, f), field_before(rec, k, f))
+    is_missing_in(k.form(f), field(record_bytes(s, k, i), k, f))
 }
 
 pub fn number(s: &[u8], k: Kind, i: usize, f: usize) -> u64
     ensures { λ r. ⌜ r ≡ numberIn (tableOf (now (s .entry)) k .says i f) ⌝ }
     ensures small { λ r. ⌜ r < 2 ^ 38 ⌝ }
 {
-    let rec = record_bytes(s, k, i);
-    number_in(k.form(f), field(rec, k, f), field_before(rec, k, f))
+    number_in(k.form(f), field(record_bytes(s, k, i), k, f))
 }
 
 pub fn coordinate(s: &[u8], k: Kind, i: usize, f: usize) -> i64
@@ -132,8 +133,7 @@ pub fn key(s: &[u8], k: Kind, i: usize, f: usize) -> u64
     ensures { λ r. ⌜ r ≡ keyIn (tableOf (now (s .entry)) k .says i f) ⌝ }
     ensures narrow { λ r. ⌜ (isN (formAt k f) ≡ true → r ≤ 2 ^ 38) ⌝ }
 {
-    let rec = record_bytes(s, k, i);
-    key_in(k.form(f), field(rec, k, f), field_before(rec, k, f))
+    key_in(k.form(f), field(record_bytes(s, k, i), k, f))
 }
 
 pub fn place(s: &[u8], k: Kind, i: usize, f: usize) -> u64
@@ -148,8 +148,7 @@ pub fn place(s: &[u8], k: Kind, i: usize, f: usize) -> u64
 pub fn letter(s: &[u8], k: Kind, i: usize, f: usize) -> u8
     ensures { λ r. ⌜ r ≡ letterIn (tableOf (now (s .entry)) k .says i f) ⌝ }
 {
-    let rec = record_bytes(s, k, i);
-    letter_in(k.form(f), field(rec, k, f), field_before(rec, k, f))
+    letter_in(k.form(f), field(record_bytes(s, k, i), k, f))
 }
 
 // How many records the file's table has: its whole records, up to the limit.

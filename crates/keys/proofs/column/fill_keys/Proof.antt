@@ -1,74 +1,43 @@
--- `fill_keys` meets its contract: the loop has read the keys of the records before i.
+-- `fill_keys` meets its contract: a vertex has a key of its own, and any other record its name.
 -- Assumes nothing.
-use Prim.Native.Nat.{_-_}
-use native.Mathlib.Omega.{arith}
+use Rattle.keys.proofs.ColumnLaws.{keys-vertices, keys-names}
 use borrow.Author.Needs.{needs}
-use Rattle.record.specs.Says.{tableOf}
-use Rattle.keys.specs.Delivery.{keyOf}
-use Rattle.keys.proofs.ColumnLaws.{Filling, filling-none, filling-more, filling-all, read-none}
 use Rattle.keys.proofs.column.fill_keys.Statement.{statement}
 use Rattle.keys.proofs.column.fill_keys.Tie as tie
 
-abbrev Inv-loop : tie.InvT-loop
-Inv-loop s k out₀ n i₀ out i = Filling (λ j. keyOf k (tableOf s k) j) n out₀ out i
+enum-told : tie.Need-enum-told
+enum-told c = search needs
 
-abbrev μ-loop : tie.MeasureT-loop
-μ-loop s k out₀ n i₀ out i = n - i
+fill-vertex-keys-requires : tie.Need-fill-vertex-keys-requires
+fill-vertex-keys-requires c κs = search needs
 
-rows-requires : tie.Need-rows-requires Inv-loop μ-loop
-rows-requires c κs = search needs
+fill-names-requires : tie.Need-fill-names-requires
+fill-names-requires c κs = search needs
 
-returns : tie.Need-returns Inv-loop μ-loop
-returns c =
-    let d = c .before in
-    read-none _ _ (omega (arith, d .rows .ensures .0, d .rows .ensures .1)) (c .if1 .taken) (d .rows .ensures .0)
-
-loop-holds : tie.Need-loop-holds Inv-loop μ-loop
-loop-holds c = filling-none _ _
-
-record-key-requires : tie.Need-record-key-requires Inv-loop μ-loop
-record-key-requires c κs = search needs
-
-mul-out : tie.Need-mul-out Inv-loop μ-loop
-mul-out c = search needs
-
-slice-write-out : tie.Need-slice-write-out Inv-loop μ-loop
-slice-write-out c = search needs
-
-add-i : tie.Need-add-i Inv-loop μ-loop
-add-i c = search needs
-
-loop-less : tie.Need-loop-less Inv-loop μ-loop
-loop-less c = search needs
-
-loop-again : tie.Need-loop-again Inv-loop μ-loop
-loop-again c =
-    let d = c .before .before in
-    filling-more (d .loop .inv) (d .before .if1 .left) (c .before .loop-test .taken) (c .record-key .ensures)
-
-same-length : tie.Need-same-length Inv-loop μ-loop
+same-length : tie.Need-same-length
 same-length c = search needs
 
-returns-2 : tie.Need-returns-2 Inv-loop μ-loop
+returns : tie.Need-returns
+returns c =
+    let d = c .before .before in
+    keys-vertices _ (d .before .before .enum-told .given .1) (d .fill-vertex-keys .ensures)
+
+same-length-2 : tie.Need-same-length-2
+same-length-2 c = search needs
+
+returns-2 : tie.Need-returns-2
 returns-2 c =
-    let d = c .before in
-    let r = d .before .before .rows .ensures in
-    filling-all (d .loop .inv) (d .before .if1 .left) (omega (arith, r .0, r .1)) (c .loop-test .left) (r .0)
+    let d = c .before .before in
+    keys-names _ _ (d .before .before .match .keys2) (d .fill-names .ensures)
 
 pub fill-keys-spec : {M : Type 1} → statement M
 fill-keys-spec =
     tie.close
     (tie.spec
-    Inv-loop
-    μ-loop
-    rows-requires
-    returns
-    loop-holds
-    record-key-requires
-    mul-out
-    slice-write-out
-    add-i
-    loop-less
-    loop-again
+    enum-told
+    fill-vertex-keys-requires
+    fill-names-requires
     same-length
+    returns
+    same-length-2
     returns-2)

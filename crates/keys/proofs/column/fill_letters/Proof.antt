@@ -1,18 +1,18 @@
--- `fill_letters` meets its contract: the loop has read the letters of the records before i.
+-- `fill_letters` meets its contract: the loop has read the letters of the records before i, and stands at record i.
 -- Assumes nothing.
 use Prim.Native.Nat.{_-_}
 use native.Mathlib.Omega.{arith}
 use borrow.Author.Needs.{needs}
 use Rattle.record.specs.Says.{tableOf, letterIn}
-use Rattle.keys.proofs.ColumnLaws.{Filling, filling-none, filling-more, filling-all, read-none}
+use Rattle.keys.proofs.ColumnLaws.{Filling, filling-none, filling-more, filling-all, read-none, Starts, starts-first, starts-next, cut-field, letter-cut}
 use Rattle.keys.proofs.column.fill_letters.Statement.{statement}
 use Rattle.keys.proofs.column.fill_letters.Tie as tie
 
 abbrev Inv-loop : tie.InvT-loop
-Inv-loop s k f out₀ n i₀ out i = Filling (λ j. letterIn (tableOf s k .says j f)) n out₀ out i
+Inv-loop s k f out₀ n form offset width at₀ i₀ out at i = Filling (λ j. letterIn (tableOf s k .says j f)) n out₀ out i × Starts k i at
 
 abbrev μ-loop : tie.MeasureT-loop
-μ-loop s k f out₀ n i₀ out i = n - i
+μ-loop s k f out₀ n form offset width at₀ i₀ out at i = n - i
 
 rows-requires : tie.Need-rows-requires Inv-loop μ-loop
 rows-requires c κs = search needs
@@ -22,11 +22,26 @@ returns c =
     let d = c .before in
     read-none _ _ (omega (arith, d .rows .ensures .0, d .rows .ensures .1)) (c .if1 .taken) (d .rows .ensures .0)
 
-loop-holds : tie.Need-loop-holds Inv-loop μ-loop
-loop-holds c = filling-none _ _
+form-requires : tie.Need-form-requires Inv-loop μ-loop
+form-requires c κs = search needs
 
-letter-requires : tie.Need-letter-requires Inv-loop μ-loop
-letter-requires c κs = search needs
+offset-requires : tie.Need-offset-requires Inv-loop μ-loop
+offset-requires c κs = search needs
+
+width-requires : tie.Need-width-requires Inv-loop μ-loop
+width-requires c κs = search needs
+
+loop-holds : tie.Need-loop-holds Inv-loop μ-loop
+loop-holds c = (filling-none _ _, starts-first _)
+
+add-part : tie.Need-add-part Inv-loop μ-loop
+add-part c = search needs
+
+part-requires : tie.Need-part-requires Inv-loop μ-loop
+part-requires c κs = search needs
+
+letter-in-requires : tie.Need-letter-in-requires Inv-loop μ-loop
+letter-in-requires c κs = search needs
 
 cast-out : tie.Need-cast-out Inv-loop μ-loop
 cast-out c = search needs
@@ -37,6 +52,15 @@ mul-out c = search needs
 slice-write-out : tie.Need-slice-write-out Inv-loop μ-loop
 slice-write-out c = search needs
 
+length-requires : tie.Need-length-requires Inv-loop μ-loop
+length-requires c κs = search needs
+
+add-at : tie.Need-add-at Inv-loop μ-loop
+add-at c =
+    let d = c .before .before .before .before in
+    let h = starts-next (d .loop .inv .1) (c .length .ensures) in
+    omega arith
+
 add-i : tie.Need-add-i Inv-loop μ-loop
 add-i c = search needs
 
@@ -45,8 +69,15 @@ loop-less c = search needs
 
 loop-again : tie.Need-loop-again Inv-loop μ-loop
 loop-again c =
-    let d = c .before .before in
-    filling-more (d .loop .inv) (d .before .if1 .left) (c .before .loop-test .taken) (c .letter .ensures)
+    let t = c .before .before .before in
+    let d = t .before in
+    let w = d .before in
+    let o = w .before in
+    let e = o .before .before in
+    let cut = cut-field _ _ (e .before .rows .ensures .0) (t .loop-test .taken) (d .loop .inv .1) _ _ _ _ (o .offset .ensures .0) (w .width .ensures .0) (c .before .before .part .ensures) in (
+      filling-more (d .loop .inv .0) (e .if1 .left) (t .loop-test .taken) (letter-cut _ _ _ _ (o .before .form .ensures) cut (c .before .letter-in .ensures)),
+      starts-next (d .loop .inv .1) (c .length .ensures),
+    )
 
 same-length : tie.Need-same-length Inv-loop μ-loop
 same-length c = search needs
@@ -54,8 +85,8 @@ same-length c = search needs
 returns-2 : tie.Need-returns-2 Inv-loop μ-loop
 returns-2 c =
     let d = c .before in
-    let r = d .before .before .rows .ensures in
-    filling-all (d .loop .inv) (d .before .if1 .left) (omega (arith, r .0, r .1)) (c .loop-test .left) (r .0)
+    let r = d .before .before .before .before .before .rows .ensures in
+    filling-all (d .loop .inv .0) (d .before .before .before .before .if1 .left) (omega (arith, r .0, r .1)) (c .loop-test .left) (r .0)
 
 pub fill-letters-spec : {M : Type 1} → statement M
 fill-letters-spec =
@@ -65,11 +96,18 @@ fill-letters-spec =
     μ-loop
     rows-requires
     returns
+    form-requires
+    offset-requires
+    width-requires
     loop-holds
-    letter-requires
+    add-part
+    part-requires
+    letter-in-requires
     cast-out
     mul-out
     slice-write-out
+    length-requires
+    add-at
     add-i
     loop-less
     loop-again

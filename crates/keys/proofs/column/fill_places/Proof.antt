@@ -1,18 +1,20 @@
--- `fill_places` meets its contract: the loop has read the places of the records before i.
+-- `fill_places` meets its contract: the loop has read the places of the records before i, and stands at record i.
 -- Assumes nothing.
 use Prim.Native.Nat.{_-_}
+use mathlib.Core.Path.{ap, _∙_}
 use native.Mathlib.Omega.{arith}
 use borrow.Author.Needs.{needs}
+use Rattle.record.specs.Table.{offsetAt, widthAt}
 use Rattle.record.specs.Says.{tableOf, placeIn}
-use Rattle.keys.proofs.ColumnLaws.{Filling, filling-none, filling-more, filling-all, read-none}
+use Rattle.keys.proofs.ColumnLaws.{Filling, filling-none, filling-more, filling-all, read-none, Starts, starts-first, starts-next, cut-field, place-cut}
 use Rattle.keys.proofs.column.fill_places.Statement.{statement}
 use Rattle.keys.proofs.column.fill_places.Tie as tie
 
 abbrev Inv-loop : tie.InvT-loop
-Inv-loop s k f out₀ n i₀ out i = Filling (λ j. placeIn (tableOf s k .says j f)) n out₀ out i
+Inv-loop s k f out₀ n g form offset width sign sign-width at₀ i₀ out at i = Filling (λ j. placeIn (tableOf s k .says j f)) n out₀ out i × Starts k i at
 
 abbrev μ-loop : tie.MeasureT-loop
-μ-loop s k f out₀ n i₀ out i = n - i
+μ-loop s k f out₀ n g form offset width sign sign-width at₀ i₀ out at i = n - i
 
 rows-requires : tie.Need-rows-requires Inv-loop μ-loop
 rows-requires c κs = search needs
@@ -22,17 +24,56 @@ returns c =
     let d = c .before in
     read-none _ _ (omega (arith, d .rows .ensures .0, d .rows .ensures .1)) (c .if1 .taken) (d .rows .ensures .0)
 
-loop-holds : tie.Need-loop-holds Inv-loop μ-loop
-loop-holds c = filling-none _ _
+sign-field-requires : tie.Need-sign-field-requires Inv-loop μ-loop
+sign-field-requires c κs = search needs
 
-place-requires : tie.Need-place-requires Inv-loop μ-loop
-place-requires c κs = search needs
+form-requires : tie.Need-form-requires Inv-loop μ-loop
+form-requires c κs = search needs
+
+offset-requires : tie.Need-offset-requires Inv-loop μ-loop
+offset-requires c κs = search needs
+
+width-requires : tie.Need-width-requires Inv-loop μ-loop
+width-requires c κs = search needs
+
+offset-requires-2 : tie.Need-offset-requires-2 Inv-loop μ-loop
+offset-requires-2 c κs = search needs
+
+width-requires-2 : tie.Need-width-requires-2 Inv-loop μ-loop
+width-requires-2 c κs = search needs
+
+loop-holds : tie.Need-loop-holds Inv-loop μ-loop
+loop-holds c = (filling-none _ _, starts-first _)
+
+add-part : tie.Need-add-part Inv-loop μ-loop
+add-part c = search needs
+
+part-requires : tie.Need-part-requires Inv-loop μ-loop
+part-requires c κs = search needs
+
+add-part-2 : tie.Need-add-part-2 Inv-loop μ-loop
+add-part-2 c = search needs
+
+part-requires-2 : tie.Need-part-requires-2 Inv-loop μ-loop
+part-requires-2 c κs = search needs
+
+place-in-requires : tie.Need-place-in-requires Inv-loop μ-loop
+place-in-requires c κs = search needs
 
 mul-out : tie.Need-mul-out Inv-loop μ-loop
 mul-out c = search needs
 
 slice-write-out : tie.Need-slice-write-out Inv-loop μ-loop
 slice-write-out c = search needs
+
+length-requires : tie.Need-length-requires Inv-loop μ-loop
+length-requires c κs = search needs
+
+add-at : tie.Need-add-at Inv-loop μ-loop
+add-at c =
+    let d = c .before .before .before .before .before in
+    let h = starts-next (d .loop .inv .1) (c .length .ensures) in
+    omega arith
 
 add-i : tie.Need-add-i Inv-loop μ-loop
 add-i c = search needs
@@ -42,8 +83,22 @@ loop-less c = search needs
 
 loop-again : tie.Need-loop-again Inv-loop μ-loop
 loop-again c =
-    let d = c .before .before in
-    filling-more (d .loop .inv) (d .before .if1 .left) (c .before .loop-test .taken) (c .place .ensures .0)
+    let p = c .before .before in
+    let t = p .before .before in
+    let d = t .before in
+    let w = d .before .before .before in
+    let o = w .before in
+    let g = o .before .before in
+    let e = g .before in
+    let cut = cut-field _ _ (e .before .rows .ensures .0) (t .loop-test .taken) (d .loop .inv .1) in
+    let size = cut _ _ _ _ (o .offset .ensures .0) (w .width .ensures .0) (p .part2 .ensures) in
+    let sign =
+    cut _ _ _ _ (d .before .before .offset2 .ensures .0 ∙ ap (offsetAt _) (g .sign-field .ensures))
+    (d .before .width2 .ensures .0 ∙ ap (widthAt _) (g .sign-field .ensures))
+    (p .before .part .ensures) in (
+      filling-more (d .loop .inv .0) (e .if1 .left) (t .loop-test .taken) (place-cut _ _ _ _ (o .before .form .ensures) size sign (c .before .place-in .ensures .0)),
+      starts-next (d .loop .inv .1) (c .length .ensures),
+    )
 
 same-length : tie.Need-same-length Inv-loop μ-loop
 same-length c = search needs
@@ -51,8 +106,8 @@ same-length c = search needs
 returns-2 : tie.Need-returns-2 Inv-loop μ-loop
 returns-2 c =
     let d = c .before in
-    let r = d .before .before .rows .ensures in
-    filling-all (d .loop .inv) (d .before .if1 .left) (omega (arith, r .0, r .1)) (c .loop-test .left) (r .0)
+    let r = d .before .before .before .before .before .before .before .before .rows .ensures in
+    filling-all (d .loop .inv .0) (d .before .before .before .before .before .before .before .if1 .left) (omega (arith, r .0, r .1)) (c .loop-test .left) (r .0)
 
 pub fill-places-spec : {M : Type 1} → statement M
 fill-places-spec =
@@ -62,10 +117,22 @@ fill-places-spec =
     μ-loop
     rows-requires
     returns
+    sign-field-requires
+    form-requires
+    offset-requires
+    width-requires
+    offset-requires-2
+    width-requires-2
     loop-holds
-    place-requires
+    add-part
+    part-requires
+    add-part-2
+    part-requires-2
+    place-in-requires
     mul-out
     slice-write-out
+    length-requires
+    add-at
     add-i
     loop-less
     loop-again

@@ -1,21 +1,19 @@
 -- `record::columns::is_missing` meets its contract.
 -- Assumes nothing.
 use Rattle.record.specs.Says.{saidIn}
+use Rattle.record.proofs.SaysLaws.{missing-before}
 use borrow.Author.Needs.{needs}
 use Rattle.record.proofs.columns.is_missing.Statement.{statement}
 use Rattle.record.proofs.columns.is_missing.Tie as tie
 
-record-bytes-requires : tie.Need-record-bytes-requires
-record-bytes-requires c κs = search needs
-
 form-requires : tie.Need-form-requires
 form-requires c κs = search needs
 
+record-bytes-requires : tie.Need-record-bytes-requires
+record-bytes-requires c κs = search needs
+
 field-requires : tie.Need-field-requires
 field-requires c κs = search needs
-
-field-before-requires : tie.Need-field-before-requires
-field-before-requires c κs = search needs
 
 is-missing-in-requires : tie.Need-is-missing-in-requires
 is-missing-in-requires c κs = search needs
@@ -23,15 +21,14 @@ is-missing-in-requires c κs = search needs
 returns : tie.Need-returns
 unfolding saidIn
 returns c =
-    simp (c .is-missing-in .ensures, c .before .field-before .ensures, c .before .before .field .ensures, c .before .before .before .form .ensures, c .before .before .before .before .record-bytes .ensures)
+    simp (c .is-missing-in .ensures, c .before .field .ensures, c .before .before .record-bytes .ensures, c .before .before .before .form .ensures) (missing-before _ _ _ _)
 
 pub is-missing-spec : {M : Type 1} → statement M
 is-missing-spec =
     tie.close
     (tie.spec
-    record-bytes-requires
     form-requires
+    record-bytes-requires
     field-requires
-    field-before-requires
     is-missing-in-requires
     returns)

@@ -1,6 +1,7 @@
 -- `record::columns::is_missing_in` meets its contract.
 -- Assumes nothing.
 use mathlib.Core.Path.{_∙_}
+use mathlib.Core.List.{[]}
 use denote.Ref.{now}
 use borrow.Author.Needs.{needs}
 use Rattle.record.proofs.SaysLaws.{missing-sign, missing-other}
@@ -15,13 +16,13 @@ all-requires c κs = search needs
 
 returns : tie.Need-returns
 returns c =
-    let a = c .before .before .before .before .args in
-    missing-sign (now (a .t)) (now (a .b)) (a .form) (c .enum-told .given .1)
+    let a = c .before .before .before .args in
+    missing-sign (now (a .t)) [] (a .form) (c .enum-told .given .1)
 
 returns-2 : tie.Need-returns-2
 returns-2 c =
-    let a = c .before .before .before .before .args in
-    c .all .ensures ∙ missing-other (now (a .t)) (now (a .b)) (a .form) (c .before .match .keys2)
+    let a = c .before .before .before .args in
+    c .all .ensures ∙ missing-other (now (a .t)) [] (a .form) (c .before .match .keys2)
 
 pub is-missing-in-spec : {M : Type 1} → statement M
 is-missing-in-spec = tie.close (tie.spec enum-told all-requires returns returns-2)

@@ -3,21 +3,19 @@
 use mathlib.Core.Path.{ap, _∙_}
 use Rattle.record.specs.Table.{isN}
 use Rattle.record.specs.Says.{saidIn}
+use Rattle.record.proofs.SaysLaws.{key-before}
 use borrow.Author.Needs.{needs}
 use Rattle.record.proofs.columns.key.Statement.{statement}
 use Rattle.record.proofs.columns.key.Tie as tie
 
-record-bytes-requires : tie.Need-record-bytes-requires
-record-bytes-requires c κs = search needs
-
 form-requires : tie.Need-form-requires
 form-requires c κs = search needs
 
+record-bytes-requires : tie.Need-record-bytes-requires
+record-bytes-requires c κs = search needs
+
 field-requires : tie.Need-field-requires
 field-requires c κs = search needs
-
-field-before-requires : tie.Need-field-before-requires
-field-before-requires c κs = search needs
 
 key-in-requires : tie.Need-key-in-requires
 key-in-requires c κs = search needs
@@ -25,7 +23,7 @@ key-in-requires c κs = search needs
 returns : tie.Need-returns
 unfolding saidIn
 returns c = (
-  simp (c .key-in .ensures .0, c .before .field-before .ensures, c .before .before .field .ensures, c .before .before .before .form .ensures, c .before .before .before .before .record-bytes .ensures),
+  simp (c .key-in .ensures .0, c .before .field .ensures, c .before .before .record-bytes .ensures, c .before .before .before .form .ensures) (key-before _ _ _ _),
   λ n. c .key-in .ensures .1 (ap isN (c .before .before .before .form .ensures) ∙ n),
 )
 
@@ -33,9 +31,8 @@ pub key-spec : {M : Type 1} → statement M
 key-spec =
     tie.close
     (tie.spec
-    record-bytes-requires
     form-requires
+    record-bytes-requires
     field-requires
-    field-before-requires
     key-in-requires
     returns)

@@ -2,6 +2,7 @@
 -- Assumes nothing.
 use mathlib.Core.Path.{refl, sym, ap, _∙_}
 use Prim.Native.Nat.{ℕ, _+_}
+use mathlib.Core.List.{[]}
 use denote.Ref.{now}
 use Rattle.record.specs.Says.{keyIn}
 use borrow.Author.Needs.{needs}
@@ -14,8 +15,8 @@ is-missing-in-requires c κs = search needs
 
 returns : tie.Need-returns
 returns c =
-    let a = c .before .before .before .before .args in
-    (none-missing (now (a .t)) (now (a .b)) keyIn (a .form) (sym (c .before .is-missing-in .ensures) ∙ c .if1 .taken), λ _. search needs)
+    let a = c .before .before .before .args in
+    (none-missing (now (a .t)) [] keyIn (a .form) (sym (c .before .is-missing-in .ensures) ∙ c .if1 .taken), λ _. search needs)
 
 enum-told : tie.Need-enum-told
 enum-told c = search needs
@@ -37,28 +38,28 @@ word-requires c κs = search needs
 
 returns-2 : tie.Need-returns-2
 returns-2 c =
-    let a = c .before .before .before .before .before .before .args in
-    (none-sign (now (a .t)) (now (a .b)) keyIn (a .form) (c .enum-told .given .1), λ _. search needs)
+    let a = c .before .before .before .before .before .args in
+    (none-sign (now (a .t)) [] keyIn (a .form) (c .enum-told .given .1), λ _. search needs)
 
 returns-3 : tie.Need-returns-3
 returns-3 c =
-    let a = c .before .before .before .before .before .before .before .args in
+    let a = c .before .before .before .before .before .before .args in
     let e = c .before .before .before in (
       ap (λ (n : ℕ). n + 1) (c .get-number .ensures .0)
-          ∙ key-number (now (a .t)) (now (a .b)) (a .form) (c .before .enum-told2 .given .1) (sym (e .before .is-missing-in .ensures) ∙ e .if1 .left),
+          ∙ key-number (now (a .t)) [] (a .form) (c .before .enum-told2 .given .1) (sym (e .before .is-missing-in .ensures) ∙ e .if1 .left),
       λ _. search needs,
     )
 
 returns-4 : tie.Need-returns-4
 returns-4 c =
-    let a = c .before .before .before .before .before .before .args in
-    (none-size (now (a .t)) (now (a .b)) keyIn (a .form) (c .enum-told3 .given .1) (λ z. refl), λ _. search needs)
+    let a = c .before .before .before .before .before .args in
+    (none-size (now (a .t)) [] keyIn (a .form) (c .enum-told3 .given .1) (λ z. refl), λ _. search needs)
 
 returns-5 : tie.Need-returns-5
 returns-5 c =
-    let a = c .before .before .before .before .before .before .args in
+    let a = c .before .before .before .before .before .args in
     let e = c .before .before in (
-      c .word .ensures ∙ key-text (now (a .t)) (now (a .b)) (a .form) (c .before .match .keys4) (sym (e .before .is-missing-in .ensures) ∙ e .if1 .left),
+      c .word .ensures ∙ key-text (now (a .t)) [] (a .form) (c .before .match .keys4) (sym (e .before .is-missing-in .ensures) ∙ e .if1 .left),
       λ n. absurd (text-no-n (a .form) (c .before .match .keys4) n),
     )
 

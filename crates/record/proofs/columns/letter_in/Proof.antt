@@ -1,6 +1,7 @@
 -- `record::columns::letter_in` meets its contract: of a text that is not blank the first byte is never trimmed.
 -- Assumes nothing.
 use mathlib.Core.Path.{refl, sym, _∙_}
+use mathlib.Core.List.{[]}
 use denote.Ref.{now}
 use Rattle.record.specs.Says.{letterIn}
 use borrow.Author.Needs.{needs}
@@ -13,8 +14,8 @@ is-missing-in-requires c κs = search needs
 
 returns : tie.Need-returns
 returns c =
-    let a = c .before .before .before .before .args in
-    none-missing (now (a .t)) (now (a .b)) letterIn (a .form) (sym (c .before .is-missing-in .ensures) ∙ c .if1 .taken)
+    let a = c .before .before .before .args in
+    none-missing (now (a .t)) [] letterIn (a .form) (sym (c .before .is-missing-in .ensures) ∙ c .if1 .taken)
 
 enum-told : tie.Need-enum-told
 enum-told c = search needs
@@ -30,24 +31,24 @@ byte-requires c κs = search needs
 
 returns-2 : tie.Need-returns-2
 returns-2 c =
-    let a = c .before .before .before .before .before .before .args in
-    none-sign (now (a .t)) (now (a .b)) letterIn (a .form) (c .enum-told .given .1)
+    let a = c .before .before .before .before .before .args in
+    none-sign (now (a .t)) [] letterIn (a .form) (c .enum-told .given .1)
 
 returns-3 : tie.Need-returns-3
 returns-3 c =
-    let a = c .before .before .before .before .before .before .args in
-    none-number (now (a .t)) (now (a .b)) letterIn (a .form) (c .enum-told2 .given .1) (λ n. refl)
+    let a = c .before .before .before .before .before .args in
+    none-number (now (a .t)) [] letterIn (a .form) (c .enum-told2 .given .1) (λ n. refl)
 
 returns-4 : tie.Need-returns-4
 returns-4 c =
-    let a = c .before .before .before .before .before .before .args in
-    none-size (now (a .t)) (now (a .b)) letterIn (a .form) (c .enum-told3 .given .1) (λ z. refl)
+    let a = c .before .before .before .before .before .args in
+    none-size (now (a .t)) [] letterIn (a .form) (c .enum-told3 .given .1) (λ z. refl)
 
 returns-5 : tie.Need-returns-5
 returns-5 c =
-    let a = c .before .before .before .before .before .before .args in
+    let a = c .before .before .before .before .before .args in
     let e = c .before .before in
-    c .byte .ensures ∙ letter-text (now (a .t)) (now (a .b)) (a .form) (c .before .match .keys4) (sym (e .before .is-missing-in .ensures) ∙ e .if1 .left)
+    c .byte .ensures ∙ letter-text (now (a .t)) [] (a .form) (c .before .match .keys4) (sym (e .before .is-missing-in .ensures) ∙ e .if1 .left)
 
 pub letter-in-spec : {M : Type 1} → statement M
 letter-in-spec =
