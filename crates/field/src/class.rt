@@ -22,8 +22,8 @@ impl Class {
         }
     }
 
-    // The loop has no exit but its end, so that it compiles to steps of several bytes.
-    fn every(self, t: &[u8]) -> bool
+    // Whether every byte is of the class. The loop has no exit but its end, so that it compiles to steps of several bytes.
+    pub fn every(self, t: &[u8]) -> bool
         ensures { λ r. ⌜ r ≡ allOf self (now (t .entry)) ⌝ }
     {
         let mut so_far = true;
@@ -35,7 +35,7 @@ impl Class {
         so_far
     }
 
-    // Whether every byte is of the class. Of a text of another class the first byte tells, mostly.
+    // The same. Of a text of another class the first byte tells, mostly.
     pub fn all(self, t: &[u8]) -> bool
         ensures { λ r. ⌜ r ≡ allOf self (now (t .entry)) ⌝ }
     {

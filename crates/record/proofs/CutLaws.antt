@@ -3,7 +3,8 @@
 use Prim.Native.Nat.{ℕ, zero, suc, _+_, _-_, _*_, _≤_, _<_}
 use mathlib.Core.List.{List, [], _∷_}
 use mathlib.Core.Path.{_≡_, refl, sym, _∙_}
-use native.Mathlib.Nat.{le-div-iff-mul-le, suc-mul}
+use native.Mathlib.Decide.{decLt}
+use native.Mathlib.Nat.{le-div-iff-mul-le, mul-le-mul, suc-mul}
 use native.Mathlib.Omega.{arith}
 use lib.ListN.{length, take, drop, length-take, length-drop, drop-of-length-le}
 use lib.Seq.{take-all, take-nil, take-take, drop-drop}
@@ -62,3 +63,22 @@ module _ (s : List ℕ) (k : Kind) (i : ℕ) (h : i < countOf s k) where
   record-field f {at} {o} {w} p q e =
       let l = within k f in
       rw (p, ← q, ← e, ← record-part {n = lengthOf k} refl, part-first w o (lengthOf k) (drop (i * lengthOf k) s) (omega arith), drop-drop)
+
+-- WHERE A RECORD ENDS, n being the length of its kind: a number in reach, where i is not too large;
+module _ (k : Kind) (i : ℕ) {n : ℕ} (e : n ≡ lengthOf k) where
+  pub end-small : i < 65536 → i * n + n ≤ 65536 * 149 + 149
+  end-small l =
+      let u : n ≤ 149 = omega (arith, sane k) in
+      omega (arith, mul-le-mul {n₁ = i} {n₂ = 65536} {m₂ = 149} (omega arith) u)
+
+  -- a record that ends within the file is whole, and any other is past the last
+  pub end-within : (s : List ℕ) → i * n + n ≤ length s → i < countOf s k
+  unfolding countOf
+  end-within s h = le-div-iff-mul-le {k = lengthOf k} (omega (arith, sane k)) .1 (rw (suc-mul, ← e) h)
+
+  pub end-past : (s : List ℕ) → length s < i * n + n → countOf s k ≤ i
+  end-past s h = go (decLt i (countOf s k))
+    where
+      go : Dec (i < countOf s k) → countOf s k ≤ i
+      go (yes l) = absurd (omega (arith, record-room s k i l e))
+      go (no l) = omega arith

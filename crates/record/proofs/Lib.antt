@@ -2,4 +2,5 @@ pub mod TableLaws
 pub mod CutLaws
 pub mod SaysLaws
 pub mod FindingLaws
+pub mod GlanceLaws
 pub mod Meaning

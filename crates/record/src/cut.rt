@@ -27,8 +27,8 @@ pub fn records(s: &[u8], k: Kind) -> usize
     s.len() / k.length()
 }
 
-// The bytes of a whole record, counted from 0; none past the last.
-pub fn record_bytes(s: &[u8], k: Kind, i: usize) -> &[u8]
+// A whole record by division, which serves any i.
+fn far_record(s: &[u8], k: Kind, i: usize) -> &[u8]
     ensures { λ r. ⌜ now r ≡ recordOf (now (s .entry)) k i ⌝ }
 {
     let n = k.length();
@@ -36,6 +36,21 @@ pub fn record_bytes(s: &[u8], k: Kind, i: usize) -> &[u8]
         part(s, i * n, n)
     } else {
         &s[..0]
+    }
+}
+
+// The bytes of a whole record, counted from 0; none past the last. It is asked at every read of a field: so there is no division where a
+// product does.
+pub fn record_bytes(s: &[u8], k: Kind, i: usize) -> &[u8]
+    ensures { λ r. ⌜ now r ≡ recordOf (now (s .entry)) k i ⌝ }
+{
+    if i < 65536 {
+        let n = k.length();
+        let a = i * n;
+        let e = a + n;
+        if e <= s.len() { &s[a..e] } else { &s[..0] }
+    } else {
+        far_record(s, k, i)
     }
 }
 

@@ -3,6 +3,7 @@
 pub mod check;
 pub mod columns;
 pub mod cut;
+mod glance;
 pub mod kind;
 pub mod reason;
 mod rules;

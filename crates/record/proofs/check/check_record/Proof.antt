@@ -1,4 +1,4 @@
--- `record::check::check_record` meets its contract: the loop stops at the first place that is broken.
+-- `record::check::check_record` meets its contract: where a glance is not enough, the loop stops at the first place that is broken.
 -- Assumes nothing.
 use Prim.Native.Nat.{_≤_, _+_, _-_}
 use mathlib.Core.Option.{none}
@@ -23,21 +23,27 @@ abbrev μ-loop : tie.MeasureT-loop
 
 -- what a turn tells
 turn : (c : tie.After-is-fine Inv-loop μ-loop) →
-    let a = c .before .before .before .before .before .before .args in
+    let a = c .before .before .before .before .before .before .before .before .args in
     c .before .check-place .result ≡ findingOf (inRecord (now (a .rec)) (a .k) (a .i) (c .before .before .before .loop .f))
 turn c = c .before .check-place .ensures ∙ place-turn _ _ _ _
+
+plainly-lawful-requires : tie.Need-plainly-lawful-requires Inv-loop μ-loop
+plainly-lawful-requires c κs = search needs
+
+returns : tie.Need-returns Inv-loop μ-loop
+returns c = sym (c .before .plainly-lawful .ensures (c .if1 .taken) (c .before .before .before .args .i))
 
 fields-requires : tie.Need-fields-requires Inv-loop μ-loop
 fields-requires c κs = search needs
 
 add-n : tie.Need-add-n Inv-loop μ-loop
-add-n c = omega (arith, c .fields .ensures, sane (c .before .before .args .k))
+add-n c = omega (arith, c .fields .ensures, sane (c .before .before .before .before .args .k))
 
 loop-holds : tie.Need-loop-holds Inv-loop μ-loop
 loop-holds c = (omega arith, first-start _)
 
 check-place-requires : tie.Need-check-place-requires Inv-loop μ-loop
-check-place-requires c κs = omega (arith, c .before .before .fields .ensures, sane (c .before .before .before .before .args .k))
+check-place-requires c κs = omega (arith, c .before .before .fields .ensures, sane (c .before .before .before .before .before .before .args .k))
 
 is-fine-requires : tie.Need-is-fine-requires Inv-loop μ-loop
 is-fine-requires c κs = search needs
@@ -45,7 +51,7 @@ is-fine-requires c κs = search needs
 add-f : tie.Need-add-f Inv-loop μ-loop
 add-f c =
     let b = c .before .before .before .before .before in
-    omega (arith, b .fields .ensures, sane (b .before .before .args .k))
+    omega (arith, b .fields .ensures, sane (b .before .before .before .before .args .k))
 
 loop-less : tie.Need-loop-less Inv-loop μ-loop
 loop-less c = omega arith
@@ -54,19 +60,19 @@ loop-again : tie.Need-loop-again Inv-loop μ-loop
 loop-again c =
     let t = c .before in
     let l = t .before .before .before .loop in
-    (omega arith, finding-more _ (l .f) (turn t) (sym (t .is-fine .ensures) ∙ c .if1 .taken) (l .inv .1))
-
-returns : tie.Need-returns Inv-loop μ-loop
-returns c =
-    let t = c .before in
-    let a = t .before .before .before .before .before .before .args in
-    let l = t .before .before .before .loop in
-    finding-here _ (fieldsOf (a .k) + 1) (turn t) (sym (t .is-fine .ensures) ∙ c .if1 .left) (l .inv .1)
-    (omega (arith, t .before .before .before .before .fields .ensures)) ∙ sym (record-is (now (a .rec)) (a .k) (a .i))
+    (omega arith, finding-more _ (l .f) (turn t) (sym (t .is-fine .ensures) ∙ c .if2 .taken) (l .inv .1))
 
 returns-2 : tie.Need-returns-2 Inv-loop μ-loop
 returns-2 c =
-    let a = c .before .before .before .before .args in
+    let t = c .before in
+    let a = t .before .before .before .before .before .before .before .before .args in
+    let l = t .before .before .before .loop in
+    finding-here _ (fieldsOf (a .k) + 1) (turn t) (sym (t .is-fine .ensures) ∙ c .if2 .left) (l .inv .1)
+    (omega (arith, t .before .before .before .before .fields .ensures)) ∙ sym (record-is (now (a .rec)) (a .k) (a .i))
+
+returns-3 : tie.Need-returns-3 Inv-loop μ-loop
+returns-3 c =
+    let a = c .before .before .before .before .before .before .args in
     let l = c .before .loop in
     finding-end _ (fieldsOf (a .k) + 1) (omega (arith, c .before .before .fields .ensures)) (l .inv .0) (c .loop-test .left) (l .inv .1) ∙ sym (record-is (now (a .rec)) (a .k) (a .i))
 
@@ -76,6 +82,8 @@ check-record-spec =
     (tie.spec
     Inv-loop
     μ-loop
+    plainly-lawful-requires
+    returns
     fields-requires
     add-n
     loop-holds
@@ -84,5 +92,5 @@ check-record-spec =
     add-f
     loop-less
     loop-again
-    returns
-    returns-2)
+    returns-2
+    returns-3)
