@@ -11,9 +11,9 @@ use native.Mathlib.Decide.{decLt}
 use native.Mathlib.Numerals.{add-one}
 use native.Mathlib.Omega.{arith}
 use lib.Dec.{ltb, eqb}
-use lib.ListN.{length, getD, take, drop, length-drop}
-use lib.Seq.{getD-take, getD-drop, take-take, drop-drop}
-use borrow.Author.Tests.{ltb-true, eqb-true, le-ltb, ne-eqb, not-true}
+use lib.ListN.{length, getD, take, drop, length-drop, List·getD-eq-default}
+use lib.Seq.{getD-take, getD-drop, take-take, drop-drop, length-take-le}
+use borrow.Author.Tests.{ltb-true, eqb-true, eq-eqb, le-ltb, ne-eqb, not-true}
 use Rattle.laws.specs.Nest.{run}
 use Rattle.laws.specs.Row.{pick, row, each}
 use Rattle.laws.proofs.FindLaws.{true-false, first-none, hit-false}
@@ -22,7 +22,8 @@ use Rattle.field.specs.declared.class.Class.{Class}
 use Rattle.field.specs.declared.class.Class.the-variants.{Blank, Digit, Zero, Text}
 use Rattle.field.specs.Bytes.{allOf, lawfulText}
 use Rattle.field.specs.Texts.{trimmed, notGiven}
-use Rattle.field.proofs.TextLaws.{lawful-blank, lawful-text, not-blank-first, trimmed-first, trimmed-some}
+use Rattle.field.proofs.TextLaws.{lawful-blank, lawful-text, not-blank-first, trimmed-first, trimmed-some, padded-trimmed}
+use Rattle.field.proofs.TextLoops.{padded-past}
 use Rattle.record.specs.declared.kind.Kind.{Kind}
 use Rattle.record.specs.declared.kind.Form.{Form}
 use Rattle.record.specs.declared.kind.Form.the-variants.{Code, Tipo, Sense, Sign, Number, Size}
@@ -112,6 +113,14 @@ no-n : (t : List ℕ) → allOf Blank t ≡ false → not (eqb (getD t 0 0) 78) 
 unfolding notGiven
 no-n t h e = rw (trimmed-first t (trimmed-some t h), not-true (eqb (getD t 0 0) 78) e, bool.and-false)
 
+-- or has a third that is no blank: more than two bytes are left of it
+third-blank : (t : List ℕ) → 2 < length t → length (trimmed t) ≡ 2 → getD t 2 0 ≡ 32
+third-blank t l q = ap (λ (u : List ℕ). getD u 2 0) (sym (padded-trimmed t)) ∙ padded-past (length t) (trimmed t) 2 l (omega arith)
+
+longer : (t : List ℕ) → 2 < length t → not (eqb (getD t 2 0) 32) ≡ true → notGiven (trimmed t) ≡ false
+unfolding notGiven
+longer t l e = rw (ne-eqb (length (trimmed t)) 2 (λ q. true-false (sym (eq-eqb (getD t 2 0) 32 (third-blank t l q)) ∙ not-true (eqb (getD t 2 0) 32) e)))
+
 -- a sign is within its domain, by the tests of +, of - and of zero
 sign-within : (plus minus zeros : Bool) → (plus ≡ true → minus ≡ false) → (plus || minus && not zeros) ≡ true → (not (plus || minus) || minus && zeros) ≡ false
 sign-within true minus zeros d h = rw (d refl)
@@ -154,6 +163,18 @@ module _ (s : List ℕ) (k : Kind) (f : ℕ) (l : 0 < f) (bar : breaks21 s k f �
 last-bar : (s : List ℕ) (k : Kind) (f : ℕ) → ltb f (fieldsOf k) ≡ false → breaks21 s k f ≡ false
 unfolding breaks21
 last-bar s k f h = rw (h, bool.and-false)
+
+-- where there is a bar the record has a byte, and so all of the field before it
+bar-within : (s : List ℕ) (o : ℕ) → barAt s o ≡ true → o < length s
+unfolding barAt
+bar-within s o e = go (decLt o (length s))
+  where
+    go : Dec (o < length s) → o < length s
+    go (yes h) = h
+    go (no h) = absurd (omega (arith, eqb-true (getD s o 0) 124 e, List·getD-eq-default s 0 {n = o} (omega arith)))
+
+bar-length : (s : List ℕ) (o w : ℕ) → barAt s (o + w) ≡ true → length (cut s o w) ≡ w
+bar-length s o w e = length-take-le w (drop o s) (omega (arith, length-drop o s, bar-within s (o + w) e))
 
 -- BY ITS COLUMN, what is read of a place
 module _ (s : List ℕ) (k : Kind) (f : ℕ) (c : Col) (q : colAt k f ≡ c) where
@@ -406,7 +427,7 @@ module _ (s : List ℕ) (k : Kind) (n : ℕ) {a b : Bool} (past : Seen s k n a) 
       let h = and-true _ _ (sym e ∙ y) in
       let h' = and-true _ _ (h .0) in
       let t = col-text s k n code q in
-      full-clean s k n (past .some) (col-bar s k n code q (h .1) refl) Code (col-form s k n code q) (rw t (h' .0)) (rw t (no-n _ (full-some Text _ (h' .0)) (h' .1))) refl)
+      full-clean s k n (past .some) (col-bar s k n code q (h .1) refl) Code (col-form s k n code q) (rw t (h' .0)) (rw t (either _ _ (no-n _ (full-some Text _ (h' .0))) (longer _ (omega (arith, bar-length s (offsetAt k n) 7 (h .1)))) (h' .1))) refl)
 
   pub seen-tipo : colAt k n ≡ alone Tipo 1 true → b ≡ tipoAt s (offsetAt k n) 1 → Seen s k (n + 1) (a && b)
   unfolding tipoAt outside

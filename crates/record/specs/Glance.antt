@@ -26,8 +26,8 @@ full c t = ltb 32 (getD t 0 0) && allOf c t
 unfoldable pub fullOrBlank : Class → List ℕ → Bool
 fullOrBlank c t = full c t || allOf Blank t
 
--- a field and the bar after it: a number that may not be missing, a number or a text that may be, a CODIGO (none that begins with N,
--- as NA and ND do), a catalogue TIPO
+-- a field and the bar after it: a number that may not be missing, a number or a text that may be, a CODIGO (none that begins with N
+-- and has a blank for its third byte, as NA and ND do), a catalogue TIPO
 unfoldable pub needAt : List ℕ → ℕ → ℕ → Bool
 needAt s o w = full Digit (cut s o w) && barAt s (o + w)
 
@@ -35,7 +35,7 @@ unfoldable pub mayAt : Class → List ℕ → ℕ → ℕ → Bool
 mayAt c s o w = fullOrBlank c (cut s o w) && barAt s (o + w)
 
 unfoldable pub codeAt : List ℕ → ℕ → ℕ → Bool
-codeAt s o w = full Text (cut s o w) && not (eqb (getD (cut s o w) 0 0) 78) && barAt s (o + w)
+codeAt s o w = full Text (cut s o w) && (not (eqb (getD (cut s o w) 0 0) 78) || not (eqb (getD (cut s o w) 2 0) 32)) && barAt s (o + w)
 
 unfoldable pub tipoAt : List ℕ → ℕ → ℕ → Bool
 tipoAt s o w =

@@ -48,13 +48,13 @@ fn may(class: Class, rec: &[u8], o: usize, w: usize) -> bool
     is_full_or_blank(class, part(rec, o, w)) & has_bar(rec, o + w)
 }
 
-// a CODIGO that doesn't begin with N, as NA and ND do,
+// a CODIGO that doesn't begin with N, as NA and ND do, or is longer than they are: its third byte is no blank,
 fn code(rec: &[u8], o: usize) -> bool
     requires { ⌜ o < 248 ⌝ }
     ensures { λ r. ⌜ r ≡ codeAt (now (rec .entry)) o 7 ⌝ }
 {
     let t = part(rec, o, 7);
-    is_full(Class::Text, t) & (byte(t, 0) != 78) & has_bar(rec, o + 7)
+    is_full(Class::Text, t) & ((byte(t, 0) != 78) | (byte(t, 2) != 32)) & has_bar(rec, o + 7)
 }
 
 // a catalogue TIPO.
