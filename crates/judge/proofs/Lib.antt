@@ -4,6 +4,7 @@ pub mod LineLaws
 pub mod CutShort
 pub mod FreeWords
 pub mod NoneBroken
+pub mod Tens
 pub mod Made
 pub mod Turns
 pub mod Rearranged

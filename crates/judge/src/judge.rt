@@ -1,6 +1,7 @@
 // The verdict on a delivery: seven files in, the counts and the first break out.
 use keys::group::check_keys;
 use keys::names::file_of;
+use lawful::lawful::shown_lawful;
 use record::check::check_fields;
 use record::check::check_shape;
 use record::cut::records;
@@ -11,12 +12,14 @@ use record::reason::Finding;
 use topology::group::check_topology;
 ghost use mathlib.Core.Path.{_≡_};
 ghost use mathlib.Core.List.{List};
+ghost use mathlib.Core.Option.{none};
 ghost use Prim.Native.Nat.{ℕ, _≤_, _<_};
+ghost use Rattle.laws.specs.Find.{firstOf};
 ghost use Rattle.laws.specs.Row.{pick};
 ghost use lib.Dec.{eqb};
-ghost use Rattle.record.specs.Breaks.{shapeFinding, fieldsFinding};
+ghost use Rattle.record.specs.Breaks.{findingOf, shapeFinding, fieldsFinding};
 ghost use Rattle.keys.specs.Delivery.{filesOf};
-ghost use Rattle.keys.specs.Groups.{atFile, overFiles};
+ghost use Rattle.keys.specs.Groups.{breakIn, atFile, overFiles};
 ghost use Rattle.judge.specs.Verdict.{groupAt, judged, countIn, countsOf, verdictOf};
 
 // The first break, where there is one, and beside it how many whole records each file has.
@@ -126,7 +129,35 @@ fn check_group<'a>(
     }
 }
 
-// The first break. A rule of a higher ten is read only where no lower ten has a break.
+// The first break of the tens below `end`, where those below `from` have none.
+fn first_from<'a>(
+    from: usize,
+    end: usize,
+    catalogo: &'a [u8],
+    ob_pun: &'a [u8],
+    ob_tex: &'a [u8],
+    ob_lin: &'a [u8],
+    tramo: &'a [u8],
+    vertice: &'a [u8],
+    nodo: &'a [u8],
+) -> Finding
+    requires { ⌜ (from ≤ end) × (firstOf (λ n. breakIn (groupAt (filesOf (now catalogo) (now «ob_pun») (now «ob_tex») (now «ob_lin») (now tramo) (now vertice) (now nodo)) n)) from ≡ none) ⌝ }
+    ensures { λ r. ⌜ r ≡ findingOf (firstOf (λ n. breakIn (groupAt (filesOf (now (catalogo .entry)) (now («ob_pun» .entry)) (now («ob_tex» .entry)) (now («ob_lin» .entry)) (now (tramo .entry)) (now (vertice .entry)) (now (nodo .entry))) n)) end) ⌝ }
+{
+    let mut t = from;
+    while t < end {
+        let v = check_group(t, catalogo, ob_pun, ob_tex, ob_lin, tramo, vertice, nodo);
+        if v.is_fine() {
+            t += 1;
+        } else {
+            return v;
+        }
+    }
+    Finding::Fine
+}
+
+// The first break. A rule of a higher ten is read only where no lower ten has a break; of the tens from 3 on a quick look shows,
+// mostly, that a lawful delivery has none.
 fn first_break<'a>(
     catalogo: &'a [u8],
     ob_pun: &'a [u8],
@@ -138,16 +169,15 @@ fn first_break<'a>(
 ) -> Finding
     ensures { λ r. ⌜ r ≡ judged (filesOf (now (catalogo .entry)) (now («ob_pun» .entry)) (now («ob_tex» .entry)) (now («ob_lin» .entry)) (now (tramo .entry)) (now (vertice .entry)) (now (nodo .entry))) ⌝ }
 {
-    let mut t = 0;
-    while t < 6 {
-        let v = check_group(t, catalogo, ob_pun, ob_tex, ob_lin, tramo, vertice, nodo);
-        if v.is_fine() {
-            t += 1;
-        } else {
-            return v;
+    let v = first_from(0, 3, catalogo, ob_pun, ob_tex, ob_lin, tramo, vertice, nodo);
+    if v.is_fine() {
+        if shown_lawful(catalogo, ob_pun, ob_tex, ob_lin, tramo, vertice, nodo) {
+            return Finding::Fine;
         }
+        first_from(3, 6, catalogo, ob_pun, ob_tex, ob_lin, tramo, vertice, nodo)
+    } else {
+        v
     }
-    Finding::Fine
 }
 
 fn count_of<'a>(

@@ -54,7 +54,7 @@ else-default {u = u} o = else-from o u (omega arith)
 same-kind : (k file : Kind) → fileOf k ≡ fileOf file → k ≡ file
 same-kind k file e = sym (kind-at k) ∙ ap (λ (n : ℕ). getD kinds (n - 1) Catalogo) e ∙ kind-at file
 
-read-at : (file : Kind) (field : ℕ) (k : Kind) (f : ℕ) → isAt file field k f ≡ true → (k ≡ file) × (f ≡ field)
+pub read-at : (file : Kind) (field : ℕ) (k : Kind) (f : ℕ) → isAt file field k f ≡ true → (k ≡ file) × (f ≡ field)
 read-at file field k f e =
     let h = and-true (eqb (fileOf k) (fileOf file)) (eqb f field) e in
     (same-kind k file (eqb-true (fileOf k) (fileOf file) (h .0)), eqb-true f field (h .1))

@@ -53,7 +53,7 @@ pub(crate) fn place_before(nodo: &[u8], i: usize) -> Found
 }
 
 // X, Y and Z as one number: equal places have equal numbers.
-fn spot(x: u64, y: u64, z: u64) -> u64
+pub fn spot(x: u64, y: u64, z: u64) -> u64
     ensures { λ r. ⌜ r ≡ spotOf x y z ⌝ }
 {
     (x % 2147483648 * 4093082899 + y % 8589934583) % 68719476731 * 268435456 + z % 268435456

@@ -1,60 +1,40 @@
--- `judge::judge::first_break` meets its contract. The loop's invariant: the tens before `t` give nothing.
+-- `judge::judge::first_break` meets its contract: what the tens below 3 have, or else what a quick look shows, or else what the rest have.
 -- Assumes nothing.
-use Prim.Native.Nat.{_-_}
+use native.Mathlib.Omega.{arith}
 use borrow.Author.Needs.{needs}
-use Rattle.keys.specs.Delivery.{filesOf}
-use Rattle.keys.proofs.CellLaws.{Fines, fines-start, fines-more, fines-here, fines-end}
-use Rattle.judge.specs.Verdict.{groupAt, judged}
+use Rattle.laws.proofs.FindLaws.{first-start}
+use Rattle.judge.specs.Verdict.{judged}
+use Rattle.judge.proofs.Tens.{nothing-yet, already, shown-fine}
 use Rattle.judge.proofs.judge.first_break.Statement.{statement}
 use Rattle.judge.proofs.judge.first_break.Tie as tie
 
-abbrev Inv-loop : tie.InvT-loop
-Inv-loop catalogo ob-pun ob-tex ob-lin tramo vertice nodo t₀ t = Fines (groupAt (filesOf catalogo ob-pun ob-tex ob-lin tramo vertice nodo)) 6 t
+first-from-requires : tie.Need-first-from-requires
+first-from-requires c κs = (omega arith, first-start _)
 
-abbrev μ-loop : tie.MeasureT-loop
-μ-loop catalogo ob-pun ob-tex ob-lin tramo vertice nodo t₀ t = 6 - t
-
-loop-holds : tie.Need-loop-holds Inv-loop μ-loop
-loop-holds c = fines-start _ _
-
-check-group-requires : tie.Need-check-group-requires Inv-loop μ-loop
-check-group-requires c κs = search needs
-
-is-fine-requires : tie.Need-is-fine-requires Inv-loop μ-loop
+is-fine-requires : tie.Need-is-fine-requires
 is-fine-requires c κs = search needs
 
-add-t : tie.Need-add-t Inv-loop μ-loop
-add-t c = search needs
+shown-lawful-requires : tie.Need-shown-lawful-requires
+shown-lawful-requires c κs = search needs
 
-loop-less : tie.Need-loop-less Inv-loop μ-loop
-loop-less c = search needs
-
-loop-again : tie.Need-loop-again Inv-loop μ-loop
-loop-again c =
-    fines-more (c .before .before .before .before .loop .inv) (c .before .before .before .loop-test .taken)
-    (c .before .before .check-group .ensures) (c .before .is-fine .ensures) (c .if1 .taken)
-
-returns : tie.Need-returns Inv-loop μ-loop
-unfolding judged
+returns : tie.Need-returns
 returns c =
-    fines-here (c .before .before .before .before .loop .inv) (c .before .before .before .loop-test .taken)
-    (c .before .before .check-group .ensures) (c .before .is-fine .ensures) (c .if1 .left)
+    let d = c .before .before in
+    shown-fine _ (nothing-yet _ 3 6 (d .before .before .first-from .ensures) (d .before .is-fine .ensures) (d .if1 .taken)) (c .before .shown-lawful .ensures (c .if2 .taken))
 
-returns-2 : tie.Need-returns-2 Inv-loop μ-loop
+first-from-requires-2 : tie.Need-first-from-requires-2
+first-from-requires-2 c κs =
+    let d = c .before .before in
+    (omega arith, nothing-yet _ 3 6 (d .before .before .first-from .ensures) (d .before .is-fine .ensures) (d .if1 .taken))
+
+returns-2 : tie.Need-returns-2
 unfolding judged
-returns-2 c = fines-end (c .before .loop .inv) (c .loop-test .left)
+returns-2 c = c .first-from2 .ensures
+
+returns-3 : tie.Need-returns-3
+unfolding judged
+returns-3 c = already _ 3 6 (c .before .before .first-from .ensures) (c .before .is-fine .ensures) (omega arith) (c .if1 .left)
 
 pub first-break-spec : {M : Type 1} → statement M
 first-break-spec =
-    tie.close
-    (tie.spec
-    Inv-loop
-    μ-loop
-    loop-holds
-    check-group-requires
-    is-fine-requires
-    add-t
-    loop-less
-    loop-again
-    returns
-    returns-2)
+    tie.close (tie.spec first-from-requires is-fine-requires shown-lawful-requires returns first-from-requires-2 returns-2 returns-3)

@@ -1,0 +1,58 @@
+-- `judge::judge::first_from` meets its contract. The loop's invariant: the tens before `t` give nothing.
+-- Assumes nothing.
+use Prim.Native.Nat.{_-_}
+use borrow.Author.Needs.{needs}
+use Rattle.keys.specs.Delivery.{filesOf}
+use Rattle.keys.proofs.CellLaws.{Fines, fines-from, fines-more, fines-here, fines-end}
+use Rattle.judge.specs.Verdict.{groupAt}
+use Rattle.judge.proofs.judge.first_from.Statement.{statement}
+use Rattle.judge.proofs.judge.first_from.Tie as tie
+
+abbrev Inv-loop : tie.InvT-loop
+Inv-loop from end catalogo ob-pun ob-tex ob-lin tramo vertice nodo t₀ t = Fines (groupAt (filesOf catalogo ob-pun ob-tex ob-lin tramo vertice nodo)) end t
+
+abbrev μ-loop : tie.MeasureT-loop
+μ-loop from end catalogo ob-pun ob-tex ob-lin tramo vertice nodo t₀ t = end - t
+
+loop-holds : tie.Need-loop-holds Inv-loop μ-loop
+loop-holds c = fines-from (c .before .before .before .before .before .before .before .pre .0) (c .before .before .before .before .before .before .before .pre .1)
+
+check-group-requires : tie.Need-check-group-requires Inv-loop μ-loop
+check-group-requires c κs = search needs
+
+is-fine-requires : tie.Need-is-fine-requires Inv-loop μ-loop
+is-fine-requires c κs = search needs
+
+add-t : tie.Need-add-t Inv-loop μ-loop
+add-t c = search needs
+
+loop-less : tie.Need-loop-less Inv-loop μ-loop
+loop-less c = search needs
+
+loop-again : tie.Need-loop-again Inv-loop μ-loop
+loop-again c =
+    fines-more (c .before .before .before .before .loop .inv) (c .before .before .before .loop-test .taken)
+    (c .before .before .check-group .ensures) (c .before .is-fine .ensures) (c .if1 .taken)
+
+returns : tie.Need-returns Inv-loop μ-loop
+returns c =
+    fines-here (c .before .before .before .before .loop .inv) (c .before .before .before .loop-test .taken)
+    (c .before .before .check-group .ensures) (c .before .is-fine .ensures) (c .if1 .left)
+
+returns-2 : tie.Need-returns-2 Inv-loop μ-loop
+returns-2 c = fines-end (c .before .loop .inv) (c .loop-test .left)
+
+pub first-from-spec : {M : Type 1} → statement M
+first-from-spec =
+    tie.close
+    (tie.spec
+    Inv-loop
+    μ-loop
+    loop-holds
+    check-group-requires
+    is-fine-requires
+    add-t
+    loop-less
+    loop-again
+    returns
+    returns-2)

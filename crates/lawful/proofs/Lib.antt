@@ -1,0 +1,5 @@
+pub mod ListLaws
+pub mod TopLaws
+pub mod FileLaws
+pub mod PartLaws
+pub mod UnbrokenLaws
