@@ -1,7 +1,7 @@
 -- The first break by the tens of the reasons, in two goes: those below 3, and, where a quick look doesn't show that there is nothing
 -- to find, the rest.
 -- Assumes nothing.
-use Prim.Native.Nat.{ℕ, _<_, _≤_}
+use Prim.Native.Nat.{ℕ, _≤_}
 use mathlib.Core.Bool.{Bool, true, false}
 use mathlib.Core.Option.{Option, none, some}
 use mathlib.Core.Path.{_≡_, refl, sym, ap, _∙_}
@@ -9,19 +9,17 @@ use native.Mathlib.Omega.{arith}
 use lib.Dec.{eqb}
 use lib.ListN.{getD}
 use Rattle.laws.specs.Find.{firstOf}
-use Rattle.laws.specs.Row.{pick}
 use Rattle.laws.proofs.FindLaws.{true-false, some-at, first-here, first-more}
 use Rattle.laws.proofs.RowLaws.{picked}
-use Rattle.record.specs.declared.kind.Kind.{Kind}
 use Rattle.record.specs.declared.reason.Break.{Break}
 use Rattle.record.specs.declared.reason.Finding.{Finding}
-use Rattle.record.specs.declared.reason.Finding.the-variants.{Fine, Broken}
+use Rattle.record.specs.declared.reason.Finding.the-variants.{Fine}
 use Rattle.record.specs.Breaks.{findingOf, fine}
 use Rattle.keys.specs.Delivery.{Delivery, deliveryOf}
 use Rattle.keys.specs.Rules.{keyTests, keyReasons}
 use Rattle.keys.specs.Groups.{breakIn}
 use Rattle.keys.specs.Findings.{keysIn, keysFinding}
-use Rattle.topology.specs.Rules.{fifties, fiftyReasons}
+use Rattle.topology.specs.Rules.{fiftyReasons}
 use Rattle.topology.specs.Findings.{topologyIn, topologyFinding, topologyTests}
 use Rattle.lawful.specs.Shown.{Unbroken}
 use Rattle.judge.specs.Verdict.{Files, groupAt, judged}

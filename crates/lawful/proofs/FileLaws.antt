@@ -1,32 +1,31 @@
 -- What look-ups in arrays show (ListLaws), carried to the files whose columns fill the arrays.
 -- Assumes nothing.
-use Prim.Native.Nat.{ℕ, _+_, _<_, _≤_}
-use mathlib.Core.Bool.{Bool, true, false, not, _&&_, _||_}
+use Prim.Native.Nat.{ℕ, _<_}
+use mathlib.Core.Bool.{Bool, true, false, _&&_}
 use mathlib.Core.List.{List}
 use mathlib.Core.Option.{none}
-use mathlib.Core.Path.{_≡_, refl, sym, ap, ap₂, subst, _∙_}
+use mathlib.Core.Path.{_≡_, refl, sym, ap, _∙_}
 use native.Mathlib.Decide.{ℕ-discrete}
 use native.Mathlib.Omega.{arith}
-use lib.Dec.{eqb}
-use lib.ListN.{length, getD}
-use borrow.Author.Tests.{eq-eqb, ne-eqb, eqb-true}
-use Rattle.laws.specs.Find.{any, names, firstIndex}
-use Rattle.laws.proofs.FindLaws.{any-at, any-true, any-same, index-none-at}
-use Rattle.laws.proofs.RowLaws.{true-and, and-true}
+use lib.ListN.{getD}
+use borrow.Author.Tests.{eq-eqb}
+use Rattle.laws.specs.Find.{names}
+use Rattle.laws.proofs.FindLaws.{any-at, any-true, index-none-at}
+use Rattle.laws.proofs.RowLaws.{true-and}
 use Rattle.index.specs.Keys.{listed, firstDuplicate}
 use Rattle.index.specs.Hint.{Known, AllKnown}
 use Rattle.index.proofs.TwiceLaws.{duplicate-filled}
 use Rattle.index.proofs.HintLaws.{known-present}
 use Rattle.record.specs.declared.kind.Kind.{Kind}
-use Rattle.record.specs.declared.kind.Kind.the-variants.{Catalogo, ObPun, ObLin, Tramo, Vertice, Nodo}
+use Rattle.record.specs.declared.kind.Kind.the-variants.{Catalogo, ObPun, Vertice, Nodo}
 use Rattle.record.specs.Says.{Table, letterIn}
 use Rattle.keys.specs.Columns.{Fills}
-use Rattle.keys.specs.Delivery.{Delivery, nameAt, vertexKey}
+use Rattle.keys.specs.Delivery.{Delivery, nameAt}
 use Rattle.keys.specs.Rules.{repeats, dangles, typedIn}
 use Rattle.keys.proofs.ReferLaws.{names-column, dangles-filled, dangles-missing, dangles-named, none-dangles-filled}
-use Rattle.topology.specs.Rules.{xAt, yAt, nodeIn, placed, meets, highestIn, vertex, elsewhere, nodeUsed, pointElsewhere}
-use Rattle.topology.proofs.EndLaws.{meetsAt, meets-any, meets-key, astray-free, astray-named}
-use Rattle.lawful.specs.Shown.{tagged, stands, placedIn, heldIn, Met, Spots}
+use Rattle.topology.specs.Rules.{xAt, yAt, nodeIn, placed, meets, vertex, elsewhere, pointElsewhere}
+use Rattle.topology.proofs.EndLaws.{astray-free, astray-named}
+use Rattle.lawful.specs.Shown.{tagged, stands, placedIn, Met, Spots}
 use Rattle.lawful.proofs.ListLaws.{stands-names}
 
 -- NAMES: keys that differ in an array differ in the column

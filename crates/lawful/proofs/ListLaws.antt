@@ -1,7 +1,7 @@
 -- The laws of what a look-up shows in arrays (specs/Shown.antt): a record found has the number; marks; every one of a row.
 -- Assumes nothing.
 use Prim.Native.Nat.{ℕ, _+_, _-_, _%_, _<_, _≤_}
-use mathlib.Core.Bool.{Bool, true, false, not, _&&_, _||_}
+use mathlib.Core.Bool.{Bool, true, _&&_}
 use mathlib.Core.List.{List}
 use mathlib.Core.Logic.{_⊎_, inl, inr, ⊎-elim}
 use mathlib.Core.Path.{_≡_, refl, sym, subst, ap, _∙_}
@@ -9,10 +9,10 @@ use native.Mathlib.Decide.{ℕ-discrete, decLt}
 use native.Mathlib.Omega.{arith}
 use lib.Dec.{eqb}
 use lib.ListN.{length, getD, set, replicate, length-set, length-replicate, getD-replicate, List·getD-eq-default}
-use lib.Seq.{getD-set-same, getD-set-other}
+use lib.Seq.{getD-set-other}
 use borrow.Author.Tests.{eq-eqb, eqb-true}
-use Rattle.laws.specs.Find.{any, names}
-use Rattle.laws.proofs.FindLaws.{true-false, any-at, any-true}
+use Rattle.laws.specs.Find.{names}
+use Rattle.laws.proofs.FindLaws.{any-at, any-true}
 use Rattle.laws.proofs.RowLaws.{true-and, and-true}
 use Rattle.index.specs.Keys.{listed}
 use Rattle.index.specs.Hint.{Guessed}
@@ -20,7 +20,7 @@ use Rattle.index.specs.declared.Found.{Found}
 use Rattle.index.specs.declared.Found.the-variants.{At}
 use Rattle.index.proofs.HintLaws.{guessed-record}
 use Rattle.topology.proofs.OrderRules.{gap-over, gap-one, alone-one, alone-other}
-use Rattle.lawful.specs.Shown.{tagged, stands, placedIn, heldIn, Numbered, Met, Marked}
+use Rattle.lawful.specs.Shown.{tagged, stands, placedIn, Numbered, Met, Marked}
 
 -- A LOOK-UP of the number a that found record j
 module _ (keys : List ℕ) (n a : ℕ) {f : Found} {j : ℕ} (g : Guessed keys n a f) (e : f ≡ At j) where

@@ -1,22 +1,19 @@
 -- The laws of the highest vertices of lines (specs/Shown.antt, Tops): the loop that fills them, and what a look-up of a line then says.
 -- Assumes nothing.
 use Prim.Native.Nat.{ℕ, _+_, _-_, _<_, _≤_}
-use mathlib.Core.Bool.{Bool, true, false, _||_}
+use mathlib.Core.Bool.{true}
 use mathlib.Core.List.{List}
 use mathlib.Core.Logic.{_⊎_, inl, inr, ⊎-elim}
 use mathlib.Core.Path.{_≡_, refl, sym, subst, ap, _∙_}
 use native.Mathlib.Decide.{ℕ-discrete, decLt}
 use native.Mathlib.Nat.{le-trans}
 use native.Mathlib.Omega.{arith}
-use lib.Dec.{eqb, ltb}
 use lib.ListN.{length, getD, set}
 use lib.Seq.{getD-set-same, getD-set-other}
 use borrow.Author.Tests.{eq-eqb, ne-eqb, lt-ltb, le-ltb}
-use Rattle.laws.specs.Row.{pick}
 use Rattle.index.specs.Keys.{listed}
 use Rattle.index.specs.Look.{lineOf, HighestIn}
 use Rattle.index.specs.Hint.{guessOf}
-use Rattle.index.specs.declared.Found.{Found}
 use Rattle.index.specs.declared.Found.the-variants.{At}
 use Rattle.topology.specs.Rules.{highestIn}
 use Rattle.topology.proofs.EndLaws.{highest-found, highest-below}

@@ -2,23 +2,23 @@
 -- Assumes nothing.
 use Prim.Native.Nat.{ℕ, zero, suc, _<_}
 use mathlib.Core.Bool.{Bool, true, false, not, _&&_}
-use mathlib.Core.List.{List, [], _∷_}
-use mathlib.Core.Path.{_≡_, refl, sym, ap, subst, _∙_}
+use mathlib.Core.List.{List, []}
+use mathlib.Core.Path.{_≡_, refl, ap, subst}
 use lib.Dec.{eqb}
 use lib.ListN.{getD}
 use borrow.Author.Tests.{eq-eqb}
 use Rattle.laws.specs.Find.{any, names}
 use Rattle.laws.proofs.FindLaws.{any-at, any-true}
-use Rattle.laws.proofs.RowLaws.{and-true, and-last, Falses, end, more, falses}
+use Rattle.laws.proofs.RowLaws.{and-true, and-last, end, more, falses}
 use Rattle.record.specs.declared.kind.Kind.{Kind}
 use Rattle.record.specs.declared.kind.Kind.the-variants.{Catalogo, ObPun, ObTex, ObLin, Tramo, Vertice, Nodo}
-use Rattle.record.specs.Says.{Table, letterIn}
+use Rattle.record.specs.Says.{Table}
 use Rattle.record.specs.Table.{keysOf}
 use Rattle.keys.specs.Delivery.{Delivery, filesOf, deliveryOf, nameAt, targetOf, typeOf}
-use Rattle.keys.specs.Rules.{repeats, breaks30, dangles, danglesTo, breaks40, typedIn, mistyped, refersToCatalogue, breaks41, keyTests}
+use Rattle.keys.specs.Rules.{repeats, breaks30, dangles, breaks40, typedIn, mistyped, refersToCatalogue, breaks41, keyTests}
 use Rattle.topology.specs.Rules.{isAt, meets, startElsewhere, endElsewhere, pointElsewhere, nodeUsed, objectIdle, breaks50, breaks51, breaks52, breaks53, breaks54, breaks55, breaks56, breaks57, breaks59, fifties}
 use Rattle.topology.proofs.FiftyLaws.{read-at}
-use Rattle.lawful.specs.Shown.{Distinct, Absent, Refers, Typed, Catalogued, Rest, Objects, Lined, Used, Noded, Unbroken}
+use Rattle.lawful.specs.Shown.{Distinct, Catalogued, Rest, Objects, Lined, Used, Noded, Unbroken}
 
 -- A CODE catalogued under the type is catalogued, and not under another
 typed-known : (cat : Table) (w x : ℕ) → typedIn w cat x ≡ true → dangles (λ j. nameAt Catalogo cat j 1) (cat .count) x ≡ false

@@ -9,7 +9,6 @@ use lib.Dec.{eqb, ltb}
 use lib.ListN.{length, getD}
 use Rattle.laws.specs.Find.{any, names}
 use Rattle.laws.specs.Row.{pick}
-use Rattle.index.specs.declared.Found.{Found}
 use Rattle.index.specs.declared.Found.the-variants.{At}
 use Rattle.index.specs.Keys.{listed}
 use Rattle.index.specs.Look.{lineOf}
@@ -19,7 +18,7 @@ use Rattle.record.specs.declared.kind.Kind.the-variants.{Catalogo, ObPun, ObTex
 use Rattle.record.specs.Says.{Table}
 use Rattle.keys.specs.Delivery.{Delivery, nameAt, vertexKey, keyOf, typeOf}
 use Rattle.keys.specs.Rules.{repeats, dangles, typedIn, keyTests}
-use Rattle.topology.specs.Rules.{xAt, yAt, gap, alone, vertex, highestIn, highest, tramoLine, startElsewhere, endElsewhere, placedBefore, pointElsewhere, nodeUsed, objectIdle, fifties}
+use Rattle.topology.specs.Rules.{xAt, yAt, gap, alone, vertex, highestIn, highest, tramoLine, startElsewhere, endElsewhere, placedBefore, pointElsewhere, nodeUsed, fifties}
 
 -- IN ARRAYS: one of the first n records has the number a and the tag w
 unfoldable pub tagged : List ℕ → List ℕ → ℕ → ℕ → ℕ → Bool
