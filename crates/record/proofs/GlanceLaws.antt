@@ -26,13 +26,17 @@ use Rattle.field.proofs.TextLaws.{lawful-blank, lawful-text, not-blank-first, t
 use Rattle.field.proofs.TextLoops.{padded-past}
 use Rattle.record.specs.declared.kind.Kind.{Kind}
 use Rattle.record.specs.declared.kind.Form.{Form}
-use Rattle.record.specs.declared.kind.Form.the-variants.{Code, Tipo, Sense, Sign, Number, Size}
+use Rattle.record.specs.declared.kind.Form.the-variants.{Words, Code, Sign, Number, Size}
+use Rattle.record.specs.declared.kind.Domain.{Domain}
+use Rattle.record.specs.declared.kind.Domain.the-variants.{Any, ObjectType, PlusMinus}
+use Rattle.record.specs.declared.kind.Target.{Target}
+use Rattle.record.specs.declared.kind.Target.the-variants.{Free}
 use Rattle.record.specs.declared.reason.Finding.the-variants.{Fine}
-use Rattle.record.specs.Table.{Col, alone, need, may, words, code, whole, signed, height, position, centroid, cols, roomIn, colAt, formAt, widthAt, mustAt, beforeAt, afterAt, offsetAt, fieldsOf, lengthOf, isN, isCode}
+use Rattle.record.specs.Table.{Col, Must, never, always, required, alone, single, whole, signCol, sizeCol, pair, zPair, position, centroid, cols, roomIn, colAt, formAt, widthAt, mustAt, backAt, aheadAt, domainAt, offsetAt, fieldsOf, lengthOf, isN, isCode, isSign}
 use Rattle.record.specs.Cut.{textOf}
-use Rattle.record.specs.Rules.{breaks20, breaks21, breaks22, breaks23, breaks24, breaks25, notNumber, notText, missingIn, partnersBlank, isSignByte, outside, twenties}
+use Rattle.record.specs.Rules.{breaks20, breaks21, breaks22, breaks23, breaks24, breaks25, notNumber, notText, missingIn, partnersBlank, isSignByte, inDomain, outside, twenties}
 use Rattle.record.specs.Breaks.{findingOf, atPlace, recordFinding}
-use Rattle.record.specs.Glance.{cut, barAt, full, fullOrBlank, needAt, mayAt, codeAt, tipoAt, senseIn, signIn, signedAt, goneAt, positionAt, nowhereAt, endAt}
+use Rattle.record.specs.machinery.Glance.{cut, barAt, full, fullOrBlank, needAt, mayAt, codeAt, tipoAt, senseIn, signIn, signedAt, goneAt, positionAt, nowhereAt, endAt}
 use Rattle.record.proofs.TableLaws.{sane, offset-next}
 use Rattle.record.proofs.SaysLaws.{partners-none}
 use Rattle.record.proofs.FindingLaws.{inRecord, record-is}
@@ -135,22 +139,22 @@ module _ (s : List ℕ) (k : Kind) (f : ℕ) (l : 0 < f) (bar : breaks21 s k f �
 
   -- where it is full, no NA and no ND, and not outside its domain,
   full-clean :
-      (form : Form) → formAt k f ≡ form → full (pick (isN form) Digit Text) (textOf s k f) ≡ true
-      → (isCode form && notGiven (trimmed (textOf s k f))) ≡ false → outside form (textOf s k f) (textOf s k (f + 1)) ≡ false → Clean s k f
+      (form : Form) (domain : Domain) → formAt k f ≡ form → domainAt k f ≡ domain → full (pick (isN form) Digit Text) (textOf s k f) ≡ true
+      → (isCode form && notGiven (trimmed (textOf s k f))) ≡ false → outside form domain (textOf s k f) (textOf s k (f + 1)) ≡ false → Clean s k f
   unfolding breaks22 breaks23 breaks24 breaks25 notNumber notText missingIn
-  full-clean form q h given within =
+  full-clean form domain q d h given within =
       clean s k f no-end bar
       (rw q (full-number (isN form) (textOf s k f) h))
       (rw q (full-text (isN form) (textOf s k f) h))
       (rw (q, given, full-some _ (textOf s k f) h))
-      (rw (q, within, bool.and-false))
+      (rw (q, d, within, bool.and-false))
 
   -- or blank as its partners are, where it may be
   blank-inside : missingIn (formAt k f) (textOf s k f) ≡ true → breaks25 s k f ≡ false
   unfolding breaks25
   blank-inside h = rw (h, bool.and-false (not (breaks22 s k f) && not (breaks23 s k f)))
 
-  blank-clean : mustAt k f ≡ false → allOf Blank (textOf s k f) ≡ true → partnersBlank s k f ≡ true → Clean s k f
+  blank-clean : required (mustAt k f) ≡ false → allOf Blank (textOf s k f) ≡ true → partnersBlank s k f ≡ true → Clean s k f
   unfolding breaks22 breaks23 breaks24 notNumber notText missingIn
   blank-clean m h p =
       clean s k f no-end bar
@@ -182,21 +186,25 @@ module _ (s : List ℕ) (k : Kind) (f : ℕ) (c : Col) (q : colAt k f ≡ c) whe
   unfolding formAt
   col-form = ap (λ (x : Col). x .form) q
 
-  col-must : mustAt k f ≡ c .must
+  col-must : required (mustAt k f) ≡ required (c .must)
   unfolding mustAt
-  col-must = ap (λ (x : Col). x .must) q
+  col-must = ap (λ (x : Col). required (x .must)) q
+
+  col-domain : domainAt k f ≡ c .domain
+  unfolding domainAt
+  col-domain = ap (λ (x : Col). x .domain) q
 
   col-width : widthAt k f ≡ c .width
   unfolding widthAt
   col-width = ap (λ (x : Col). x .width) q
 
-  col-before : beforeAt k f ≡ c .before
-  unfolding beforeAt
-  col-before = ap (λ (x : Col). x .before) q
+  col-back : backAt k f ≡ c .back
+  unfolding backAt
+  col-back = ap (λ (x : Col). x .back) q
 
-  col-after : afterAt k f ≡ c .after
-  unfolding afterAt
-  col-after = ap (λ (x : Col). x .after) q
+  col-ahead : aheadAt k f ≡ c .ahead
+  unfolding aheadAt
+  col-ahead = ap (λ (x : Col). x .ahead) q
 
   col-text : textOf s k f ≡ cut s (offsetAt k f) (c .width)
   unfolding textOf
@@ -207,13 +215,13 @@ module _ (s : List ℕ) (k : Kind) (f : ℕ) (c : Col) (q : colAt k f ≡ c) whe
   col-bar h e = rw (col-width, ← e, h, bool.and-false)
 
   -- a field with no partners is clean where it is full or blank, and may be so
-  alone-clean : 0 < f → breaks21 s k f ≡ false → c .must ≡ false → c .before + c .after ≡ 0 → isCode (c .form) ≡ false
-      → ((t next : List ℕ) → outside (c .form) t next ≡ false) → fullOrBlank (pick (isN (c .form)) Digit Text) (cut s (offsetAt k f) (c .width)) ≡ true → Clean s k f
+  alone-clean : 0 < f → breaks21 s k f ≡ false → required (c .must) ≡ false → c .back + c .ahead ≡ 0 → isCode (c .form) ≡ false
+      → ((t next : List ℕ) → outside (c .form) (c .domain) t next ≡ false) → fullOrBlank (pick (isN (c .form)) Digit Text) (cut s (offsetAt k f) (c .width)) ≡ true → Clean s k f
   unfolding fullOrBlank
   alone-clean l bar must partners given within h =
       either _ _
-      (λ y. full-clean s k f l bar (c .form) col-form (rw col-text y) (rw given) (within _ _))
-      (λ y. blank-clean s k f l bar (col-must ∙ must) (rw col-text y) (partners-none s k f (rw (col-before, col-after) partners) ∙ rw col-text y)) h
+      (λ y. full-clean s k f l bar (c .form) (c .domain) col-form col-domain (rw col-text y) (rw given) (within _ _))
+      (λ y. blank-clean s k f l bar (col-must ∙ must) (rw col-text y) (partners-none s k f (rw (col-back, col-ahead) partners) ∙ rw col-text y)) h
 
 -- WHAT A TEST TELLS of a record's places below n
 pub record Seen (s : List ℕ) (k : Kind) (n : ℕ) (b : Bool) : Type 0 where
@@ -230,7 +238,7 @@ seen-none s k e = absurd (true-false (sym e))
 
 -- the end is place 0
 end-clean : (s : List ℕ) (k : Kind) → endAt s (lengthOf k - 2) ≡ true → Clean s k 0
-unfolding breaks20 breaks21 breaks22 breaks23 breaks24 breaks25 notNumber notText missingIn partnersBlank outside textOf formAt widthAt mustAt beforeAt afterAt colAt allOf lawfulText each row endAt
+unfolding breaks20 breaks21 breaks22 breaks23 breaks24 breaks25 notNumber notText missingIn partnersBlank inDomain outside textOf formAt widthAt mustAt backAt aheadAt domainAt colAt allOf lawfulText each row endAt
 end-clean s k h =
     let e : lengthOf k - 2 + 1 ≡ lengthOf k - 1 = omega (arith, sane k) in
     clean s k 0 (rw (ap not (rw e at h))) refl refl refl refl refl
@@ -247,18 +255,18 @@ unfolding row each
 each-row p g zero h = refl
 each-row p g (suc n) h = each-last p (row g n) (g n) ∙ true-and _ _ (each-row p g n (λ j l. h j (omega arith))) (h n (omega arith))
 
-blank-partners : (s : List ℕ) (k : Kind) (f a e : ℕ) → Over (BlankAt s k) a e → a ≤ f - beforeAt k f → f - beforeAt k f + (beforeAt k f + afterAt k f + 1) ≤ e
+blank-partners : (s : List ℕ) (k : Kind) (f a e : ℕ) → Over (BlankAt s k) a e → a ≤ f - backAt k f → f - backAt k f + (backAt k f + aheadAt k f + 1) ≤ e
     → partnersBlank s k f ≡ true
 unfolding partnersBlank
-blank-partners s k f a e h l u = each-row (allOf Blank) (λ j. textOf s k (f - beforeAt k f + j)) (beforeAt k f + afterAt k f + 1) (λ j m. h _ (omega arith) (omega arith))
+blank-partners s k f a e h l u = each-row (allOf Blank) (λ j. textOf s k (f - backAt k f + j)) (backAt k f + aheadAt k f + 1) (λ j m. h _ (omega arith) (omega arith))
 
 -- A SIGN AND A SIZE at f and f + 1
-module _ (s : List ℕ) (k : Kind) (f : ℕ) (w : ℕ) (must : Bool) (before after : ℕ) (rest : List Col) (d : drop f (cols k) ≡ signed w must before after rest) where
-  sign-col : colAt k f ≡ record { form = Sign; width = 1; must = must; before = before; after = suc after }
+module _ (s : List ℕ) (k : Kind) (f : ℕ) (w : ℕ) (must : Must) (back ahead : ℕ) (rest : List Col) (d : drop f (cols k) ≡ pair w must back ahead rest) where
+  sign-col : colAt k f ≡ signCol must back ahead
   unfolding colAt
   sign-col = let e : f + 0 ≡ f = omega arith in ap (λ (x : ℕ). getD (cols k) x whole) (sym e) ∙ sym (getD-drop f (cols k) 0 whole) ∙ ap (λ (l : List Col). getD l 0 whole) d
 
-  size-col : colAt k (f + 1) ≡ record { form = Size; width = w; must = must; before = suc before; after = after }
+  size-col : colAt k (f + 1) ≡ sizeCol w must back ahead
   unfolding colAt
   size-col = sym (getD-drop f (cols k) 1 whole) ∙ ap (λ (l : List Col). getD l 1 whole) d
 
@@ -303,51 +311,51 @@ module _ (s : List ℕ) (k : Kind) (f : ℕ) (w : ℕ) (must : Bool) (before aft
   module _ (l : 0 < f) (bar : breaks21 s k (f + 1) ≡ false) where
     -- a coordinate is clean,
     signed-clean : signedAt s (offsetAt k f) w ≡ true → Over (Clean s k) f (f + 2)
-    unfolding signedAt signIn outside
+    unfolding signedAt signIn inDomain outside
     signed-clean h =
         let h' = and-true _ _ h in
         let sign = and-true _ _ (h' .0) in
         let t = and-true _ _ (sign .0) in
         let x = getD (cut s (offsetAt k f) 1) 0 0 in
         over-two (Clean s k) f
-        (full-clean s k f l (col-bar s k f _ sign-col (sign .1) refl) Sign (col-form s k f _ sign-col) (rw sign-text (t .0)) refl
+        (full-clean s k f l (col-bar s k f _ sign-col (sign .1) refl) Sign PlusMinus (col-form s k f _ sign-col) (col-domain s k f _ sign-col) (rw sign-text (t .0)) refl
         (rw (sign-text, size-text) (sign-within (eqb x 43) (eqb x 45) (allOf Zero (cut s (offsetAt k f + 2) w)) (λ e. ne-eqb x 45 (λ q. omega (arith, eqb-true x 43 e))) (t .1))))
-        (full-clean s k (f + 1) (omega arith) bar Size (col-form s k (f + 1) _ size-col) (rw size-text (h' .1)) refl refl)
+        (full-clean s k (f + 1) (omega arith) bar Size Any (col-form s k (f + 1) _ size-col) (col-domain s k (f + 1) _ size-col) (rw size-text (h' .1)) refl refl)
 
     -- and blanks are, where all partners are blank
-    gone-clean : must ≡ false → goneAt s (offsetAt k f) w ≡ true → (a e : ℕ) → Over (BlankAt s k) a e → a ≤ f - before → f - before + (before + after + 2) ≤ e → Over (Clean s k) f (f + 2)
+    gone-clean : required must ≡ false → goneAt s (offsetAt k f) w ≡ true → (a e : ℕ) → Over (BlankAt s k) a e → a ≤ f - back → f - back + (back + ahead + 2) ≤ e → Over (Clean s k) f (f + 2)
     gone-clean m h a e all low high =
         let both = gone-blank h in
         over-two (Clean s k) f
         (blank-clean s k f l (col-bar s k f _ sign-col (gone-bar h) refl) (col-must s k f _ sign-col ∙ m) (both f (omega arith) (omega arith))
-        (blank-partners s k f a e all (omega (arith, col-before s k f _ sign-col)) (omega (arith, col-before s k f _ sign-col, col-after s k f _ sign-col))))
+        (blank-partners s k f a e all (omega (arith, col-back s k f _ sign-col)) (omega (arith, col-back s k f _ sign-col, col-ahead s k f _ sign-col))))
         (blank-clean s k (f + 1) (omega arith) bar (col-must s k (f + 1) _ size-col ∙ m) (both (f + 1) (omega arith) (omega arith))
-        (blank-partners s k (f + 1) a e all (omega (arith, col-before s k (f + 1) _ size-col)) (omega (arith, col-before s k (f + 1) _ size-col, col-after s k (f + 1) _ size-col))))
+        (blank-partners s k (f + 1) a e all (omega (arith, col-back s k (f + 1) _ size-col)) (omega (arith, col-back s k (f + 1) _ size-col, col-ahead s k (f + 1) _ size-col))))
 
 -- X, Y AND Z at n: three of them, where X and Y may be missing or not
-module _ (s : List ℕ) (k : Kind) (n : ℕ) (l : 0 < n) (must : Bool) (b₁ a₁ b₂ a₂ : ℕ) (d : drop n (cols k) ≡ signed 9 must b₁ a₁ (signed 10 must b₂ a₂ height)) where
-  y-cols : drop (n + 2) (cols k) ≡ signed 10 must b₂ a₂ height
-  y-cols = pair-rest s k n 9 must b₁ a₁ (signed 10 must b₂ a₂ height) d
+module _ (s : List ℕ) (k : Kind) (n : ℕ) (l : 0 < n) (must : Must) (b₁ a₁ b₂ a₂ : ℕ) (d : drop n (cols k) ≡ pair 9 must b₁ a₁ (pair 10 must b₂ a₂ zPair)) where
+  y-cols : drop (n + 2) (cols k) ≡ pair 10 must b₂ a₂ zPair
+  y-cols = pair-rest s k n 9 must b₁ a₁ (pair 10 must b₂ a₂ zPair) d
 
-  z-cols : drop (n + 2 + 2) (cols k) ≡ height
-  z-cols = pair-rest s k (n + 2) 10 must b₂ a₂ height y-cols
+  z-cols : drop (n + 2 + 2) (cols k) ≡ zPair
+  z-cols = pair-rest s k (n + 2) 10 must b₂ a₂ zPair y-cols
 
   y-offset : offsetAt k (n + 2) ≡ offsetAt k n + 12
-  y-offset = pair-offset s k n 9 must b₁ a₁ (signed 10 must b₂ a₂ height) d refl
+  y-offset = pair-offset s k n 9 must b₁ a₁ (pair 10 must b₂ a₂ zPair) d refl
 
   z-offset : offsetAt k (n + 2 + 2) ≡ offsetAt k n + 25
-  z-offset = let e = pair-offset s k (n + 2) 10 must b₂ a₂ height y-cols refl in omega (arith, y-offset)
+  z-offset = let e = pair-offset s k (n + 2) 10 must b₂ a₂ zPair y-cols refl in omega (arith, y-offset)
 
   -- the bars between them
   module _ (x : barAt s (offsetAt k n + 11) ≡ true) (y : barAt s (offsetAt k n + 24) ≡ true) where
     x-bar : breaks21 s k (n + 1) ≡ false
-    x-bar = size-bar s k n 9 must b₁ a₁ (signed 10 must b₂ a₂ height) d x (omega arith)
+    x-bar = size-bar s k n 9 must b₁ a₁ (pair 10 must b₂ a₂ zPair) d x (omega arith)
 
     y-bar : breaks21 s k (n + 2 + 1) ≡ false
-    y-bar = size-bar s k (n + 2) 10 must b₂ a₂ height y-cols y (omega (arith, y-offset))
+    y-bar = size-bar s k (n + 2) 10 must b₂ a₂ zPair y-cols y (omega (arith, y-offset))
 
   z-bar : breaks21 s k (n + 2 + 2 + 1) ≡ false
-  z-bar = size-last s k (n + 2 + 2) 8 false 0 0 [] z-cols refl
+  z-bar = size-last s k (n + 2 + 2) 8 never 0 0 [] z-cols refl
 
   three : (P : ℕ → Type 0) → Over P n (n + 2) → Over P (n + 2) (n + 2 + 2) → Over P (n + 2 + 2) (n + 2 + 2 + 2) → Over P n (n + 6)
   three P x y z = over-both P n (n + 2) x (over-both P (n + 2) (n + 2 + 2) y (λ g l u. z g l (omega arith)))
@@ -364,12 +372,12 @@ module _ (s : List ℕ) (k : Kind) (n : ℕ) (l : 0 < n) (must : Bool) (b₁ a�
       (signed-clean s k n 9 must b₁ a₁ _ d l (x-bar (x .1) (y' .1)) (x .0))
       (signed-clean s k (n + 2) 10 must b₂ a₂ _ y-cols (omega arith) (y-bar (x .1) (y' .1)) (rw y-offset (y .1)))
       (either _ _
-      (λ e. signed-clean s k (n + 2 + 2) 8 false 0 0 [] z-cols (omega arith) z-bar (rw z-offset e))
-      (λ e. let g = rw (← z-offset) at e in gone-clean s k (n + 2 + 2) 8 false 0 0 [] z-cols (omega arith) z-bar refl g _ _ (gone-blank s k (n + 2 + 2) 8 false 0 0 [] z-cols g) (omega arith) (omega arith))
+      (λ e. signed-clean s k (n + 2 + 2) 8 never 0 0 [] z-cols (omega arith) z-bar (rw z-offset e))
+      (λ e. let g = rw (← z-offset) at e in gone-clean s k (n + 2 + 2) 8 never 0 0 [] z-cols (omega arith) z-bar refl g _ _ (gone-blank s k (n + 2 + 2) 8 never 0 0 [] z-cols g) (omega arith) (omega arith))
       (z .1))
 
   -- and blanks for it are, where X and Y may be missing and have all six for partners
-  nowhere-clean : must ≡ false → b₁ ≡ 0 → a₁ ≡ 4 → b₂ ≡ 2 → a₂ ≡ 2 → nowhereAt s (offsetAt k n) ≡ true → Over (Clean s k) n (n + 6)
+  nowhere-clean : required must ≡ false → b₁ ≡ 0 → a₁ ≡ 4 → b₂ ≡ 2 → a₂ ≡ 2 → nowhereAt s (offsetAt k n) ≡ true → Over (Clean s k) n (n + 6)
   unfolding nowhereAt
   nowhere-clean m p q u v h =
       let z = and-true _ _ h in
@@ -379,11 +387,11 @@ module _ (s : List ℕ) (k : Kind) (n : ℕ) (l : 0 < n) (must : Bool) (b₁ a�
       let gx = x .0 in
       let gy : goneAt s (offsetAt k (n + 2)) 10 ≡ true = rw y-offset (y .1) in
       let gz : goneAt s (offsetAt k (n + 2 + 2)) 8 ≡ true = rw z-offset (z .1) in
-      let all = three (BlankAt s k) (gone-blank s k n 9 must b₁ a₁ _ d gx) (gone-blank s k (n + 2) 10 must b₂ a₂ _ y-cols gy) (gone-blank s k (n + 2 + 2) 8 false 0 0 [] z-cols gz) in
+      let all = three (BlankAt s k) (gone-blank s k n 9 must b₁ a₁ _ d gx) (gone-blank s k (n + 2) 10 must b₂ a₂ _ y-cols gy) (gone-blank s k (n + 2 + 2) 8 never 0 0 [] z-cols gz) in
       three (Clean s k)
       (gone-clean s k n 9 must b₁ a₁ _ d l (x-bar (x .1) (y' .1)) m gx n (n + 6) all (omega arith) (omega arith))
       (gone-clean s k (n + 2) 10 must b₂ a₂ _ y-cols (omega arith) (y-bar (x .1) (y' .1)) m gy n (n + 6) all (omega arith) (omega arith))
-      (gone-clean s k (n + 2 + 2) 8 false 0 0 [] z-cols (omega arith) z-bar refl gz n (n + 6) all (omega arith) (omega arith))
+      (gone-clean s k (n + 2 + 2) 8 never 0 0 [] z-cols (omega arith) z-bar refl gz n (n + 6) all (omega arith) (omega arith))
 
 -- FIELD BY FIELD
 module _ (s : List ℕ) (k : Kind) (n : ℕ) {a b : Bool} (past : Seen s k n a) where
@@ -395,63 +403,63 @@ module _ (s : List ℕ) (k : Kind) (n : ℕ) {a b : Bool} (past : Seen s k n a) 
   seen-one h = seen-more (omega arith) (λ y. over-one (Clean s k) n (h y))
 
   -- a number that may not be missing,
-  pub seen-need : (w : ℕ) → colAt k n ≡ need w → b ≡ needAt s (offsetAt k n) w → Seen s k (n + 1) (a && b)
-  unfolding needAt outside
+  pub seen-need : (w : ℕ) {r : Target} → colAt k n ≡ single Number w always Any r → b ≡ needAt s (offsetAt k n) w → Seen s k (n + 1) (a && b)
+  unfolding needAt inDomain outside
   seen-need w q e = seen-one (λ y.
       let h = and-true _ _ (sym e ∙ y) in
-      full-clean s k n (past .some) (col-bar s k n (need w) q (h .1) refl) Number (col-form s k n (need w) q) (rw (col-text s k n (need w) q) (h .0)) refl refl)
+      full-clean s k n (past .some) (col-bar s k n _ q (h .1) refl) Number Any (col-form s k n _ q) (col-domain s k n _ q) (rw (col-text s k n _ q) (h .0)) refl refl)
 
   -- a number and a text that may be,
-  pub seen-may : (w : ℕ) → colAt k n ≡ may w → b ≡ mayAt Digit s (offsetAt k n) w → Seen s k (n + 1) (a && b)
-  unfolding mayAt outside
+  pub seen-may : (w : ℕ) {r : Target} {own : Bool} → colAt k n ≡ alone Number w never Any r own false → b ≡ mayAt Digit s (offsetAt k n) w → Seen s k (n + 1) (a && b)
+  unfolding mayAt inDomain outside
   seen-may w q e = seen-one (λ y.
       let h = and-true _ _ (sym e ∙ y) in
-      alone-clean s k n (may w) q (past .some) (col-bar s k n (may w) q (h .1) refl) refl refl refl (λ t next. refl) (h .0))
+      alone-clean s k n _ q (past .some) (col-bar s k n _ q (h .1) refl) refl refl refl (λ t next. refl) (h .0))
 
-  pub seen-words : (w : ℕ) → colAt k n ≡ words w → b ≡ mayAt Text s (offsetAt k n) w → Seen s k (n + 1) (a && b)
-  unfolding mayAt outside
+  pub seen-words : (w : ℕ) {free : Bool} → colAt k n ≡ alone Words w never Any Free false free → b ≡ mayAt Text s (offsetAt k n) w → Seen s k (n + 1) (a && b)
+  unfolding mayAt inDomain outside
   seen-words w q e = seen-one (λ y.
       let h = and-true _ _ (sym e ∙ y) in
-      alone-clean s k n (words w) q (past .some) (col-bar s k n (words w) q (h .1) refl) refl refl refl (λ t next. refl) (h .0))
+      alone-clean s k n _ q (past .some) (col-bar s k n _ q (h .1) refl) refl refl refl (λ t next. refl) (h .0))
 
   -- the same as the last field,
-  pub seen-last : (w : ℕ) → colAt k n ≡ words w → ltb n (fieldsOf k) ≡ false → b ≡ fullOrBlank Text (cut s (offsetAt k n) w) → Seen s k (n + 1) (a && b)
-  unfolding outside
+  pub seen-last : (w : ℕ) {free : Bool} → colAt k n ≡ alone Words w never Any Free false free → ltb n (fieldsOf k) ≡ false → b ≡ fullOrBlank Text (cut s (offsetAt k n) w) → Seen s k (n + 1) (a && b)
+  unfolding inDomain outside
   seen-last w q l e = seen-one (λ y.
-      alone-clean s k n (words w) q (past .some) (last-bar s k n l) refl refl refl (λ t next. refl) (sym e ∙ y))
+      alone-clean s k n _ q (past .some) (last-bar s k n l) refl refl refl (λ t next. refl) (sym e ∙ y))
 
   -- a CODIGO, a catalogue TIPO
-  pub seen-code : colAt k n ≡ code → b ≡ codeAt s (offsetAt k n) 7 → Seen s k (n + 1) (a && b)
-  unfolding codeAt outside
+  pub seen-code : {r : Target} → colAt k n ≡ single Code 7 always Any r → b ≡ codeAt s (offsetAt k n) 7 → Seen s k (n + 1) (a && b)
+  unfolding codeAt inDomain outside
   seen-code q e = seen-one (λ y.
       let h = and-true _ _ (sym e ∙ y) in
       let h' = and-true _ _ (h .0) in
-      let t = col-text s k n code q in
-      full-clean s k n (past .some) (col-bar s k n code q (h .1) refl) Code (col-form s k n code q) (rw t (h' .0)) (rw t (either _ _ (no-n _ (full-some Text _ (h' .0))) (longer _ (omega (arith, bar-length s (offsetAt k n) 7 (h .1)))) (h' .1))) refl)
+      let t = col-text s k n _ q in
+      full-clean s k n (past .some) (col-bar s k n _ q (h .1) refl) Code Any (col-form s k n _ q) (col-domain s k n _ q) (rw t (h' .0)) (rw t (either _ _ (no-n _ (full-some Text _ (h' .0))) (longer _ (omega (arith, bar-length s (offsetAt k n) 7 (h .1)))) (h' .1))) refl)
 
-  pub seen-tipo : colAt k n ≡ alone Tipo 1 true → b ≡ tipoAt s (offsetAt k n) 1 → Seen s k (n + 1) (a && b)
-  unfolding tipoAt outside
+  pub seen-tipo : colAt k n ≡ single Words 1 always ObjectType Free → b ≡ tipoAt s (offsetAt k n) 1 → Seen s k (n + 1) (a && b)
+  unfolding tipoAt inDomain outside
   seen-tipo q e = seen-one (λ y.
-      let c = alone Tipo 1 true in
+      let c = single Words 1 always ObjectType Free in
       let h = and-true _ _ (sym e ∙ y) in
       let h' = and-true _ _ (h .0) in
       let t = col-text s k n c q in
-      full-clean s k n (past .some) (col-bar s k n c q (h .1) refl) Tipo (col-form s k n c q) (rw t (h' .0)) refl (rw (t, h' .1)))
+      full-clean s k n (past .some) (col-bar s k n c q (h .1) refl) Words ObjectType (col-form s k n c q) (col-domain s k n c q) (rw t (h' .0)) refl (rw (t, h' .1)))
 
   -- and a sense as the last field
-  pub seen-sense : colAt k n ≡ alone Sense 1 false → ltb n (fieldsOf k) ≡ false → b ≡ senseIn (cut s (offsetAt k n) 1) → Seen s k (n + 1) (a && b)
-  unfolding senseIn outside
+  pub seen-sense : colAt k n ≡ single Words 1 never PlusMinus Free → ltb n (fieldsOf k) ≡ false → b ≡ senseIn (cut s (offsetAt k n) 1) → Seen s k (n + 1) (a && b)
+  unfolding senseIn inDomain outside
   seen-sense q l e = seen-one (λ y.
-      let c = alone Sense 1 false in
+      let c = single Words 1 never PlusMinus Free in
       let t = col-text s k n c q in
       either _ _
-      (λ z. let h = and-true (full Text (cut s (offsetAt k n) 1)) (isSignByte (getD (cut s (offsetAt k n) 1) 0 0)) z in full-clean s k n (past .some) (last-bar s k n l) Sense (col-form s k n c q) (rw t (h .0)) refl (rw (t, h .1)))
-      (λ z. blank-clean s k n (past .some) (last-bar s k n l) (col-must s k n c q) (rw t z) (partners-none s k n (rw (col-before s k n c q, col-after s k n c q)) ∙ rw t z))
+      (λ z. let h = and-true (full Text (cut s (offsetAt k n) 1)) (isSignByte (getD (cut s (offsetAt k n) 1) 0 0)) z in full-clean s k n (past .some) (last-bar s k n l) Words PlusMinus (col-form s k n c q) (col-domain s k n c q) (rw t (h .0)) refl (rw (t, h .1)))
+      (λ z. blank-clean s k n (past .some) (last-bar s k n l) (col-must s k n c q) (rw t z) (partners-none s k n (rw (col-back s k n c q, col-ahead s k n c q)) ∙ rw t z))
       (sym e ∙ y))
 
   -- X, Y and Z, which are the last
   pub seen-position : drop n (cols k) ≡ position → (b ≡ true → positionAt s (offsetAt k n) ≡ true) → Seen s k (n + 6) (a && b)
-  seen-position d e = seen-more (omega arith) (λ y. position-clean s k n (past .some) true 0 0 0 0 d (e y))
+  seen-position d e = seen-more (omega arith) (λ y. position-clean s k n (past .some) always 0 0 0 0 d (e y))
 
 -- or blanks for all three
 pub seen-centroid : (s : List ℕ) (k : Kind) (n : ℕ) {a b c : Bool} → Seen s k n a → drop n (cols k) ≡ centroid → (b ≡ true → positionAt s (offsetAt k n) ≡ true)
@@ -459,8 +467,8 @@ pub seen-centroid : (s : List ℕ) (k : Kind) (n : ℕ) {a b c : Bool} → Seen 
 seen-centroid s k n {a} {b} {c} past d p q =
     seen-more s k n past (omega arith)
     (either b c
-    (λ y. position-clean s k n (past .some) false 0 4 2 2 d (p y))
-    (λ y. nowhere-clean s k n (past .some) false 0 4 2 2 d refl refl refl refl refl (q y)))
+    (λ y. position-clean s k n (past .some) never 0 4 2 2 d (p y))
+    (λ y. nowhere-clean s k n (past .some) never 0 4 2 2 d refl refl refl refl refl (q y)))
 
 -- A PART of n bytes from o on is read in place of the record
 part-inside : (n a w : ℕ) (l : List ℕ) → a + w ≤ n → take w (drop a (take n l)) ≡ take w (drop a l)

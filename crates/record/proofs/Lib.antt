@@ -1,4 +1,5 @@
 pub mod TableLaws
+pub mod PackedLaws
 pub mod CutLaws
 pub mod SaysLaws
 pub mod FindingLaws

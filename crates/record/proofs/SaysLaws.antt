@@ -23,11 +23,11 @@ use Rattle.field.proofs.TextLaws.{trimmed-le, trimmed-first, trimmed-some, trim
 use Rattle.field.proofs.TextLoops.{length-trimmed}
 use Rattle.record.specs.declared.kind.Kind.{Kind}
 use Rattle.record.specs.declared.kind.Form.{Form}
-use Rattle.record.specs.declared.kind.Form.the-variants.{Words, Code, Tipo, Sense, Sign, Number, Size}
-use Rattle.record.specs.Table.{beforeAt, afterAt, isN}
+use Rattle.record.specs.declared.kind.Form.the-variants.{Words, Code, Sign, Number, Size}
+use Rattle.record.specs.Table.{backAt, aheadAt, isN, isSign}
 use Rattle.record.specs.Cut.{textOf}
-use Rattle.record.specs.Rules.{partnersBlank, outside}
-use Rattle.record.specs.Says.{Said, missing, number, text, coordinate, saidAs, isMissing, numberIn, coordinateIn, keyIn, letterIn, placeOf, placeIn, textSaid}
+use Rattle.record.specs.Rules.{partnersBlank}
+use Rattle.record.specs.Says.{Said, missing, number, text, coordinate, saidAs, isMissing, numberIn, keyIn, letterIn, placeOf, placeIn, textSaid}
 use Rattle.record.proofs.kind.Form.{the-type}
 
 -- FORMS of an arm of a `match`, by their places in the enum
@@ -35,16 +35,16 @@ abbrev pub Among : List ℕ → Form → Type 0
 Among ks form = OneOf ks (tagOf the-type form)
 
 abbrev pub texts : List ℕ
-texts = 0 ∷ 1 ∷ 2 ∷ 3 ∷ []
+texts = 0 ∷ 1 ∷ []
 
 abbrev pub noSign : List ℕ
-noSign = 0 ∷ 1 ∷ 2 ∷ 3 ∷ 5 ∷ 6 ∷ []
+noSign = 0 ∷ 1 ∷ 3 ∷ 4 ∷ []
 
 abbrev pub noNumber : List ℕ
-noNumber = 0 ∷ 1 ∷ 2 ∷ 3 ∷ 4 ∷ 6 ∷ []
+noNumber = 0 ∷ 1 ∷ 2 ∷ 4 ∷ []
 
 abbrev pub noSize : List ℕ
-noSize = 0 ∷ 1 ∷ 2 ∷ 3 ∷ 4 ∷ 5 ∷ []
+noSize = 0 ∷ 1 ∷ 2 ∷ 3 ∷ []
 
 -- a field that is blank says nothing
 picked : {A : Type 0} (g : Said → A) (a : A) (b : Bool) (x : Said) → (b ≡ true → a ≡ g missing) → (b ≡ false → a ≡ g x) → a ≡ g (pick b missing x)
@@ -61,10 +61,6 @@ said-gone g missing e = refl
 said-gone g (number n) e = absurd (true-false (sym e))
 said-gone g (text t) e = absurd (true-false (sym e))
 said-gone g (coordinate z) e = absurd (true-false (sym e))
-
-signed-zero : (b : Bool) → signed b 0 ≡ pos 0
-signed-zero true = refl
-signed-zero false = refl
 
 -- a coordinate's place, from its sign and its size
 place-code : (minus : Bool) (n : ℕ) → pick (minus && not (eqb n 0)) (n + n) (n + n + 1) ≡ placeOf (signed minus n)
@@ -88,9 +84,7 @@ module _ (t b : List ℕ) where
   unfolding saidAs
   missing-other Words h = said-missing _ refl
   missing-other Code h = said-missing _ refl
-  missing-other Tipo h = said-missing _ refl
-  missing-other Sense h = said-missing _ refl
-  missing-other Sign h = absurd (miss noSign 4 tt h)
+  missing-other Sign h = absurd (miss noSign 2 tt h)
   missing-other Number h = said-missing _ refl
   missing-other Size h = said-missing _ refl
 
@@ -103,19 +97,9 @@ module _ (t b : List ℕ) where
   unfolding saidAs
   no-number Words h = said-none numberIn _ refl
   no-number Code h = said-none numberIn _ refl
-  no-number Tipo h = said-none numberIn _ refl
-  no-number Sense h = said-none numberIn _ refl
   no-number Sign h = refl
-  no-number Number h = absurd (miss noNumber 5 tt h)
+  no-number Number h = absurd (miss noNumber 3 tt h)
   no-number Size h = said-none numberIn _ refl
-
-  -- COORDINATES
-  pub coordinate-said : (form : Form) → form ≡ Size → signed (eqb (getD b 0 0) 45) (numberOf t) ≡ coordinateIn (saidAs form t b)
-  unfolding saidAs
-  coordinate-said form e =
-      let minus = eqb (getD b 0 0) 45 in
-      let z = signed minus (numberOf t) in
-      rw e (picked coordinateIn z (allOf Blank t) (coordinate z) (λ h. ap (signed minus) (blank-number t h) ∙ signed-zero minus) (λ _. refl))
 
   -- a reader g has of a field of another form what it has where nothing is said
   no-size : {A : Type 0} (g : Said → A) → ((n : ℕ) → g missing ≡ g (number n)) → ((l : List ℕ) → g missing ≡ g (text l)) → (form : Form) → Among noSize form
@@ -123,14 +107,9 @@ module _ (t b : List ℕ) where
   unfolding saidAs
   no-size g n l Words h = said-none g _ (l _)
   no-size g n l Code h = said-none g _ (l _)
-  no-size g n l Tipo h = said-none g _ (l _)
-  no-size g n l Sense h = said-none g _ (l _)
   no-size g n l Sign h = refl
   no-size g n l Number h = said-none g _ (n _)
-  no-size g n l Size h = absurd (miss noSize 6 tt h)
-
-  pub no-coordinate : (form : Form) → Among noSize form → pos 0 ≡ coordinateIn (saidAs form t b)
-  no-coordinate = no-size coordinateIn (λ _. refl) (λ _. refl)
+  no-size g n l Size h = absurd (miss noSize 4 tt h)
 
   pub no-place : (form : Form) → Among noSize form → 0 ≡ placeIn (saidAs form t b)
   no-place = no-size placeIn (λ _. refl) (λ _. refl)
@@ -150,11 +129,9 @@ module _ (t b : List ℕ) where
   unfolding saidAs
   as-text Words h = refl
   as-text Code h = refl
-  as-text Tipo h = refl
-  as-text Sense h = refl
-  as-text Sign h = absurd (miss texts 4 tt h)
-  as-text Number h = absurd (miss texts 5 tt h)
-  as-text Size h = absurd (miss texts 6 tt h)
+  as-text Sign h = absurd (miss texts 2 tt h)
+  as-text Number h = absurd (miss texts 3 tt h)
+  as-text Size h = absurd (miss texts 4 tt h)
 
   text-there : (form : Form) → Among texts form → isMissing (saidAs form t b) ≡ false → (allOf Blank t ≡ false) × (saidAs form t b ≡ text (trimmed t))
   text-there form h m = there (allOf Blank t) (text (trimmed t)) (saidAs form t b) (as-text form h) m
@@ -193,8 +170,6 @@ said-before : {A : Type 0} (g : Said → A) → ((y z : ℤ) → g (coordinate y
 unfolding saidAs
 said-before g h Words t b c = refl
 said-before g h Code t b c = refl
-said-before g h Tipo t b c = refl
-said-before g h Sense t b c = refl
 said-before g h Sign t b c = refl
 said-before g h Number t b c = refl
 said-before {A} g h Size t b c = go (allOf Blank t) _ _
@@ -219,11 +194,9 @@ letter-before = said-before letterIn (λ y z. refl)
 pub text-no-n : (form : Form) → Among texts form → isN form ≡ true → ⊥
 text-no-n Words h e = true-false (sym e)
 text-no-n Code h e = true-false (sym e)
-text-no-n Tipo h e = true-false (sym e)
-text-no-n Sense h e = true-false (sym e)
 text-no-n Sign h e = true-false (sym e)
-text-no-n Number h e = miss texts 5 tt h
-text-no-n Size h e = miss texts 6 tt h
+text-no-n Number h e = miss texts 3 tt h
+text-no-n Size h e = miss texts 4 tt h
 
 -- a number's key, missing or not
 pub number-key : (form : Form) (t b : List ℕ) → form ≡ Number → keyIn (saidAs form t b) ≡ pick (isMissing (saidAs form t b)) 0 (numberIn (saidAs form t b) + 1)
@@ -277,8 +250,6 @@ place-same (coordinate y) (coordinate z) p q e = ap coordinate (place-of-same y 
 abbrev pub Keyed : Form → List ℕ → Type 0
 Keyed Words t = length t ≤ 7
 Keyed Code t = length t ≤ 7
-Keyed Tipo t = length t ≤ 7
-Keyed Sense t = length t ≤ 7
 Keyed Sign t = ⊥
 Keyed Number t = Unit {0}
 Keyed Size t = ⊥
@@ -292,8 +263,6 @@ as-key : (form : Form) (t b : List ℕ) → Keyed form t → (saidAs form t b �
 unfolding saidAs
 as-key Words t b h = (refl, λ _. h)
 as-key Code t b h = (refl, λ _. h)
-as-key Tipo t b h = (refl, λ _. h)
-as-key Sense t b h = (refl, λ _. h)
 as-key Sign t b h = absurd h
 as-key Number t b h = (refl, λ e. absurd (true-false e))
 as-key Size t b h = absurd h
@@ -337,22 +306,19 @@ pub not-given-trimmed : (t : List ℕ) {len : ℕ} → len ≡ length (trimmed t
 unfolding trimmed
 not-given-trimmed t e = rw (e, first-bytes-le _ t (trimmed-le t), length-trimmed)
 
--- THE DOMAIN is read of the next field for a sign alone
-pub next-unread : (t a b : List ℕ) (form : Form) → Among noSign form → outside form t a ≡ outside form t b
-unfolding outside
-next-unread t a b Words h = refl
-next-unread t a b Code h = refl
-next-unread t a b Tipo h = refl
-next-unread t a b Sense h = refl
-next-unread t a b Sign h = absurd (miss noSign 4 tt h)
-next-unread t a b Number h = refl
-next-unread t a b Size h = refl
+-- no form but the sign's is a sign's
+pub no-sign : (form : Form) → Among noSign form → isSign form ≡ false
+no-sign Words h = refl
+no-sign Code h = refl
+no-sign Sign h = absurd (miss noSign 2 tt h)
+no-sign Number h = refl
+no-sign Size h = refl
 
 -- PARTNERS: a field that has none is asked alone
-pub partners-none : (s : List ℕ) (k : Kind) (f : ℕ) → beforeAt k f + afterAt k f ≡ 0 → partnersBlank s k f ≡ allOf Blank (textOf s k f)
+pub partners-none : (s : List ℕ) (k : Kind) (f : ℕ) → backAt k f + aheadAt k f ≡ 0 → partnersBlank s k f ≡ allOf Blank (textOf s k f)
 unfolding partnersBlank row each
 partners-none s k f h =
-    let b : beforeAt k f ≡ 0 = omega arith in
-    let a : afterAt k f ≡ 0 = omega arith in
+    let b : backAt k f ≡ 0 = omega arith in
+    let a : aheadAt k f ≡ 0 = omega arith in
     let e : f - 0 + 0 ≡ f = omega arith in
     rw (b, a, e, and-true)

@@ -1,4 +1,4 @@
--- The laws of the columns of specs/Table.antt, and of the code's tables.
+-- The laws of the rows of specs/Table.antt.
 -- Assumes nothing.
 use Prim.Native.Nat.{ℕ, zero, suc, _+_, _-_, _*_, _/_, _%_, _≤_, _<_}
 use mathlib.Core.Bool.{Bool, true, false, _&&_, _||_, not}
@@ -13,10 +13,8 @@ use Rattle.laws.specs.Row.{pick, row, each}
 use Rattle.laws.proofs.RowLaws.{and-true, length-row, row-at, each-at}
 use Rattle.record.specs.declared.kind.Kind.{Kind}
 use Rattle.record.specs.declared.kind.Kind.the-variants.{Catalogo, ObPun, ObTex, ObLin, Tramo, Vertice, Nodo}
-use Rattle.record.specs.declared.kind.Form.{Form}
-use Rattle.record.specs.declared.kind.Form.the-variants.{Words, Code, Tipo, Sense, Sign, Number, Size}
 use Rattle.record.specs.declared.kind.Which.the-variants.{NoFile, File}
-use Rattle.record.specs.Table.{Col, whole, cols, roomIn, roomOf, offsetIn, lengthIn, colAt, formAt, widthAt, offsetAt, fieldsOf, lengthOf, fileOf, whichOf, isN, codeOf, formOf, packedOf, digitOf}
+use Rattle.record.specs.Table.{Col, whole, cols, roomIn, roomOf, offsetIn, lengthIn, colAt, formAt, widthAt, offsetAt, kinds, longest, mostFields, widest, fieldsOf, lengthOf, fileOf, whichOf, isN}
 
 -- A TABLE: a test of every element holds at every index, where it holds of the default
 pub each-getD : {A : Type 0} (p : A → Bool) (xs : List A) (d : A) → p d ≡ true → each p xs ≡ true → (i : ℕ) → p (getD xs i d) ≡ true
@@ -52,10 +50,7 @@ default-past d (suc a) xs (suc n) h = default-past d a xs n (λ l. omega (arith,
 pub default-at : {A : Type 0} (d : A) (a : ℕ) (xs : List A) (n : ℕ) → NoneOf (numbers a (length xs)) n → d ≡ getD (after d a xs) n d
 default-at d a xs n o = default-past d a xs n (none-past a (length xs) n o)
 
--- THE KINDS, in the order of their numbers; what a test of all says of one
-abbrev pub kinds : List Kind
-kinds = Catalogo ∷ ObPun ∷ ObTex ∷ ObLin ∷ Tramo ∷ Vertice ∷ Nodo ∷ []
-
+-- THE KINDS: what a test of all says of one
 pub kind-at : (k : Kind) → getD kinds (fileOf k - 1) Catalogo ≡ k
 kind-at Catalogo = refl
 kind-at ObPun = refl
@@ -75,27 +70,27 @@ every-le g h e k = leb-true _ _ (every (λ j. leb (g j) (h j)) e k)
 -- what the layers above need of each kind
 pub record Sane (k : Kind) : Type 0 where
   pub first : 1 ≤ fileOf k
-  pub last : fileOf k ≤ 7
+  pub last : fileOf k ≤ length kinds
   pub long : 2 ≤ lengthOf k
-  pub short : lengthOf k ≤ 149
-  pub few : fieldsOf k ≤ 14
+  pub short : lengthOf k ≤ longest
+  pub few : fieldsOf k ≤ mostFields
 
 pub sane : (k : Kind) → Sane k
 unfolding each
 sane k =
     record {
       first = every-le (λ j. 1) fileOf refl k;
-      last = every-le fileOf (λ j. 7) refl k;
+      last = every-le fileOf (λ j. length kinds) refl k;
       long = every-le (λ j. 2) lengthOf refl k;
-      short = every-le lengthOf (λ j. 149) refl k;
-      few = every-le fieldsOf (λ j. 14) refl k;
+      short = every-le lengthOf (λ j. longest) refl k;
+      few = every-le fieldsOf (λ j. mostFields) refl k;
     }
 
 -- and of each column
 fit : Col → Bool
-fit c = leb (c .width) 60 && (not (isN (c .form)) || leb (c .width) 10)
+fit c = leb (c .width) widest && (not (isN (c .form)) || leb (c .width) 10)
 
-pub widths : (k : Kind) (f : ℕ) → (widthAt k f ≤ 60) × (isN (formAt k f) ≡ true → widthAt k f ≤ 10)
+pub widths : (k : Kind) (f : ℕ) → (widthAt k f ≤ widest) × (isN (formAt k f) ≡ true → widthAt k f ≤ 10)
 unfolding widthAt formAt colAt each fit
 widths k f =
     let e = and-true _ _ (each-getD fit (cols k) whole refl (every (λ j. each fit (cols j)) refl k) f) in
@@ -157,45 +152,22 @@ unfolding everywhere
 every-place p e k f l =
     ap (p k) (sym (row-at (λ g. g) 16 0 l)) ∙ each-at (p k) (row (λ g. g) 16) f 0 (every (λ j. each (p j) (row (λ g. g) 16)) e k) (rw length-row l)
 
--- THE CODE'S TABLES. The digits of an attribute's numbers are the attribute, as is computed of each
-abbrev pub Packs : (List Col → ℕ → ℕ) → Type 0
-Packs g = everywhere (λ k f. eqb (digitOf (packedOf g k) f) (g (cols k) f)) ≡ true
-
--- so that the code reads it of a kind's number n at a place,
-pub read : (g : List Col → ℕ → ℕ) → Packs g → (k : Kind) (f : ℕ) {n : ℕ} → n ≡ packedOf g k → f < 16 → digitOf n f ≡ g (cols k) f
-read g e k f q l = rw q (eqb-true _ _ (every-place (λ k f. eqb (digitOf (packedOf g k) f) (g (cols k) f)) e k f l))
-
--- and of two numbers, which have its two digits
-pub read-two : (g : List Col → ℕ → ℕ) → Packs (λ cs f. g cs f / 16) → Packs (λ cs f. g cs f % 16) → (k : Kind) (f : ℕ) {m n : ℕ}
-    → m ≡ packedOf (λ cs f. g cs f / 16) k → n ≡ packedOf (λ cs f. g cs f % 16) k → f < 16 → digitOf m f * 16 + digitOf n f ≡ g (cols k) f
-read-two g d e k f p q l =
-    let high = read (λ cs f. g cs f / 16) d k f p l in
-    let low = read (λ cs f. g cs f % 16) e k f q l in
-    omega arith
-
--- and past them
+-- past the 16 places there is nothing
 pub past : {A : Type 0} (g : Col → A) (k : Kind) (f : ℕ) → 16 ≤ f → g whole ≡ g (colAt k f)
 past g k f l = ap g (sym (col-past k f (omega (arith, sane k))))
 
--- the numbers of forms, and 1 for what must be
-pub form-code : (x : Form) → formOf (codeOf x) ≡ x
-unfolding formOf
-form-code Words = refl
-form-code Code = refl
-form-code Tipo = refl
-form-code Sense = refl
-form-code Sign = refl
-form-code Number = refl
-form-code Size = refl
-
-pub form-rest : (n : ℕ) → NoneOf (numbers 1 6) n → Words ≡ formOf n
-unfolding formOf
-form-rest n o = default-at Words 1 (Code ∷ Tipo ∷ Sense ∷ Sign ∷ Number ∷ Size ∷ []) n o
-
+-- THE FILES' NUMBERS: every other number is no file's,
 pub which-rest : (n : ℕ) → NoneOf (numbers 1 7) n → NoFile ≡ whichOf n
 unfolding whichOf
 which-rest n o = default-at NoFile 1 (map File kinds) n o
 
-pub one-picked : (b : Bool) → eqb (pick b 1 0) 1 ≡ b
-one-picked true = refl
-one-picked false = refl
+-- and a file's own is its kind's
+pub which-file : (k : Kind) → whichOf (fileOf k) ≡ File k
+unfolding whichOf
+which-file Catalogo = refl
+which-file ObPun = refl
+which-file ObTex = refl
+which-file ObLin = refl
+which-file Tramo = refl
+which-file Vertice = refl
+which-file Nodo = refl

@@ -3,5 +3,5 @@ pub mod Cut
 pub mod Rules
 pub mod Breaks
 pub mod Claims
-pub mod Glance
+pub mod machinery
 pub mod Says

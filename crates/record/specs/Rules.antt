@@ -12,8 +12,9 @@ use Rattle.field.specs.Bytes.{allOf, lawfulText}
 use Rattle.field.specs.Texts.{trimmed, notGiven}
 use Rattle.record.specs.declared.kind.Kind.{Kind}
 use Rattle.record.specs.declared.kind.Form.{Form}
-use Rattle.record.specs.declared.kind.Form.the-variants.{Words, Code, Tipo, Sense, Sign, Number, Size}
-use Rattle.record.specs.Table.{formAt, widthAt, mustAt, beforeAt, afterAt, offsetAt, fieldsOf, lengthOf, limit, isN, isCode}
+use Rattle.record.specs.declared.kind.Domain.{Domain}
+use Rattle.record.specs.declared.kind.Domain.the-variants.{Any, ObjectType, PlusMinus}
+use Rattle.record.specs.Table.{formAt, widthAt, mustAt, backAt, aheadAt, domainAt, offsetAt, fieldsOf, lengthOf, limit, required, isN, isCode, isSign}
 use Rattle.record.specs.Cut.{textOf}
 
 -- of a file's bytes s
@@ -58,31 +59,31 @@ missingIn form t = allOf Blank t || isCode form && notGiven (trimmed t)
 
 -- the field and its partners are all blank
 unfoldable pub partnersBlank : List ℕ → Kind → ℕ → Bool
-partnersBlank s k f = each (allOf Blank) (row (λ j. textOf s k (f - beforeAt k f + j)) (beforeAt k f + afterAt k f + 1))
+partnersBlank s k f = each (allOf Blank) (row (λ j. textOf s k (f - backAt k f + j)) (backAt k f + aheadAt k f + 1))
 
 -- 24: missing where it may not be, or blank while a partner isn't
 unfoldable pub breaks24 : List ℕ → Kind → ℕ → Bool
-breaks24 s k f = missingIn (formAt k f) (textOf s k f) && (mustAt k f || not (partnersBlank s k f))
+breaks24 s k f = missingIn (formAt k f) (textOf s k f) && (required (mustAt k f) || not (partnersBlank s k f))
 
 abbrev pub isSignByte : ℕ → Bool
 isSignByte b = eqb b 43 || eqb b 45
 
--- outside the form's domain; t is the field's text and next the next field's. - never stands before zero, which is told at the sign
-unfoldable pub outside : Form → List ℕ → List ℕ → Bool
-outside Words t next = false
-outside Code t next = false
+-- a field's bytes are within a domain
+unfoldable pub inDomain : Domain → List ℕ → Bool
+inDomain Any t = true
 -- P, X, L or T
-outside Tipo t next = not (eqb (getD t 0 0) 80 || eqb (getD t 0 0) 88 || eqb (getD t 0 0) 76 || eqb (getD t 0 0) 84)
-outside Sense t next = not (isSignByte (getD t 0 0))
-outside Sign t next = not (isSignByte (getD t 0 0)) || eqb (getD t 0 0) 45 && allOf Zero next
-outside Number t next = false
-outside Size t next = false
+inDomain ObjectType t = eqb (getD t 0 0) 80 || eqb (getD t 0 0) 88 || eqb (getD t 0 0) 76 || eqb (getD t 0 0) 84
+inDomain PlusMinus t = isSignByte (getD t 0 0)
+
+-- outside the domain; next is the next field's bytes: - never stands before zero, which is told at the sign
+unfoldable pub outside : Form → Domain → List ℕ → List ℕ → Bool
+outside form domain t next = not (inDomain domain t) || isSign form && (eqb (getD t 0 0) 45 && allOf Zero next)
 
 -- 25: not missing and outside its domain; read only of a field that breaks neither 22 nor 23
 unfoldable pub breaks25 : List ℕ → Kind → ℕ → Bool
 breaks25 s k f =
     not (breaks22 s k f) && not (breaks23 s k f) && not (missingIn (formAt k f) (textOf s k f))
-    && outside (formAt k f) (textOf s k f) (textOf s k (f + 1))
+    && outside (formAt k f) (domainAt k f) (textOf s k f) (textOf s k (f + 1))
 
 -- the twenties at a place, in their order
 abbrev pub twenties : List ℕ → Kind → ℕ → List Bool

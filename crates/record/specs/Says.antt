@@ -15,7 +15,7 @@ use Rattle.field.specs.Signs.{signed}
 use Rattle.field.specs.Texts.{trimmed, wordOf}
 use Rattle.record.specs.declared.kind.Kind.{Kind}
 use Rattle.record.specs.declared.kind.Form.{Form}
-use Rattle.record.specs.declared.kind.Form.the-variants.{Words, Code, Tipo, Sense, Sign, Number, Size}
+use Rattle.record.specs.declared.kind.Form.the-variants.{Words, Code, Sign, Number, Size}
 use Rattle.record.specs.Table.{formAt, limit}
 use Rattle.record.specs.Cut.{countOf, recordOf, textOf}
 
@@ -33,8 +33,6 @@ textSaid t = pick (allOf Blank t) missing (text (trimmed t))
 unfoldable pub saidAs : Form → List ℕ → List ℕ → Said
 saidAs Words t b = textSaid t
 saidAs Code t b = textSaid t
-saidAs Tipo t b = textSaid t
-saidAs Sense t b = textSaid t
 saidAs Sign t b = missing
 saidAs Number t b = pick (allOf Blank t) missing (number (numberOf t))
 saidAs Size t b = pick (allOf Blank t) missing (coordinate (signed (eqb (getD b 0 0) 45) (numberOf t)))
@@ -64,12 +62,6 @@ numberIn missing = 0
 numberIn (number n) = n
 numberIn (text t) = 0
 numberIn (coordinate z) = 0
-
-abbrev pub coordinateIn : Said → ℤ
-coordinateIn missing = pos 0
-coordinateIn (number n) = pos 0
-coordinateIn (text t) = pos 0
-coordinateIn (coordinate z) = z
 
 -- an id or a CODIGO as one number, by which keys and references are compared: 0 is kept for what is missing, and the id 0 has number
 -- 1. (A text counts by its first eight bytes, and CODIGO has seven; a coordinate is no key.)

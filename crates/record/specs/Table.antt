@@ -1,87 +1,214 @@
--- The seven files: their fields in order (document 01, "What the box receives" and "A lawful record").
--- Each width stands here, once; offsets, lengths and numbers of fields are computed.
+-- The seven files, one row each (document 01, "What the box receives", "A lawful record", "Keys" and "References"). Whatever differs from
+-- file to file stands here, once; offsets, lengths, numbers of fields and keys are computed.
 -- Assumes nothing.
-use Prim.Native.Nat.{ℕ, zero, suc, _+_, _*_, _/_, _%_, _^_}
+use Prim.Native.Nat.{ℕ, zero, suc, _+_}
 use mathlib.Core.Bool.{Bool, true, false}
-use mathlib.Core.List.{List, [], _∷_}
+use mathlib.Core.List.{List, [], _∷_, map}
 use lib.ListN.{length, getD}
+use Rattle.laws.specs.Row.{pick}
 use Rattle.record.specs.declared.kind.Kind.{Kind}
 use Rattle.record.specs.declared.kind.Kind.the-variants.{Catalogo, ObPun, ObTex, ObLin, Tramo, Vertice, Nodo}
 use Rattle.record.specs.declared.kind.Form.{Form}
-use Rattle.record.specs.declared.kind.Form.the-variants.{Words, Code, Tipo, Sense, Sign, Number, Size}
+use Rattle.record.specs.declared.kind.Form.the-variants.{Words, Code, Sign, Number, Size}
+use Rattle.record.specs.declared.kind.Domain.{Domain}
+use Rattle.record.specs.declared.kind.Domain.the-variants.{Any, ObjectType, PlusMinus}
+use Rattle.record.specs.declared.kind.Target.{Target}
+use Rattle.record.specs.declared.kind.Target.the-variants.{Free, Nowhere, To}
 use Rattle.record.specs.declared.kind.Which.{Which}
 use Rattle.record.specs.declared.kind.Which.the-variants.{NoFile, File}
 
--- a field: its form (an A field: Words, CODIGO, catalogue TIPO, sense, sign; an N field: a number, or the size of a
--- coordinate), its width, whether it may not be missing, and its partners: from `before` fields before it to `after` fields
--- after it, itself among them
+-- when a field may not be missing
+pub data Must : Type 0 where
+  never : Must
+  always : Must
+
+abbrev pub required : Must → Bool
+required never = false
+required always = true
+
+-- A FIELD: its form (an A field: words, a CODIGO, a coordinate's sign; an N field: a number, the size of a coordinate), its width, when
+-- it may not be missing, its partners (from `back` fields before it to `ahead` fields after it, itself among them), its domain, what it
+-- refers to, whether the record's own id stands for it where it is blank, and whether it is a free word
 pub record Col : Type 0 where
   pub form : Form
   pub width : ℕ
-  pub must : Bool
-  pub before : ℕ
-  pub after : ℕ
+  pub must : Must
+  pub back : ℕ
+  pub ahead : ℕ
+  pub domain : Domain
+  pub refers : Target
+  pub own : Bool
+  pub free : Bool
 
-abbrev pub alone : Form → ℕ → Bool → Col
-alone form w must = record { form = form; width = w; must = must; before = 0; after = 0 }
+-- a field without partners,
+abbrev pub alone : Form → ℕ → Must → Domain → Target → Bool → Bool → Col
+alone form w must domain refers own free =
+    record { form = form; width = w; must = must; back = 0; ahead = 0; domain = domain; refers = refers; own = own; free = free }
+
+-- that is no free word, and for which no id stands
+abbrev pub single : Form → ℕ → Must → Domain → Target → Col
+single form w must domain refers = alone form w must domain refers false false
 
 -- N that may not be missing, N that may be
 abbrev pub need : ℕ → Col
-need w = alone Number w true
+need w = single Number w always Any Free
 
 abbrev pub may : ℕ → Col
-may w = alone Number w false
+may w = single Number w never Any Free
 
--- A that may be blank
-abbrev pub words : ℕ → Col
-words w = alone Words w false
+-- the id of a record of a kind, which may not be missing, or may be
+abbrev pub needsA : Kind → Col
+needsA k = single Number 10 always Any (To k 1)
 
+abbrev pub mayNameA : Kind → Col
+mayNameA k = single Number 10 never Any (To k 1)
+
+-- an id that has no file in the base
+abbrev pub noFileYet : Col
+noFileYet = single Number 10 never Any Nowhere
+
+-- CODIGO, of a file whose codes are catalogued
 abbrev pub code : Col
-code = alone Code 7 true
+code = single Code 7 always Any (To Catalogo 1)
+
+-- A that may be blank, and that is no free word
+abbrev pub words : ℕ → Col
+words w = single Words w never Any Free
+
+-- a name, LITERAL or DEFINICI
+abbrev pub freeWord : Col
+freeWord = alone Words 60 never Any Free false true
+
+-- a tramo's line: a line of at least one vertex; a blank one means the line with the tramo's own id
+abbrev pub ownLine : Col
+ownLine = alone Number 10 never Any (To Vertice 1) true false
 
 -- place 0 of a record is the record as a whole, and no field
 abbrev pub whole : Col
 whole = words 0
 
--- a sign and the number after it. Their partners reach from `before` fields before the sign to `after` fields after the number
-abbrev pub signed : ℕ → Bool → ℕ → ℕ → List Col → List Col
-signed w must before after rest =
-    record { form = Sign; width = 1; must = must; before = before; after = suc after }
-    ∷ record { form = Size; width = w; must = must; before = suc before; after = after }
-    ∷ rest
+-- a coordinate's sign and the number after it. Their partners reach from `back` fields before the sign to `ahead` fields after the number
+abbrev pub signCol : Must → ℕ → ℕ → Col
+signCol must back ahead =
+    record { form = Sign; width = 1; must = must; back = back; ahead = suc ahead; domain = PlusMinus; refers = Free; own = false; free = false }
+
+abbrev pub sizeCol : ℕ → Must → ℕ → ℕ → Col
+sizeCol w must back ahead =
+    record { form = Size; width = w; must = must; back = suc back; ahead = ahead; domain = Any; refers = Free; own = false; free = false }
+
+abbrev pub pair : ℕ → Must → ℕ → ℕ → List Col → List Col
+pair w must back ahead rest = signCol must back ahead ∷ sizeCol w must back ahead ∷ rest
 
 -- Z and its sign are partners of each other
-abbrev pub height : List Col
-height = signed 8 false 0 0 []
+abbrev pub zPair : List Col
+zPair = pair 8 never 0 0 []
 
 -- X and Y with their signs may not be missing
 abbrev pub position : List Col
-position = signed 9 true 0 0 (signed 10 true 0 0 height)
+position = pair 9 always 0 0 (pair 10 always 0 0 zPair)
 
 -- X and Y with their signs have all six fields for partners
 abbrev pub centroid : List Col
-centroid = signed 9 false 0 4 (signed 10 false 2 2 height)
+centroid = pair 9 never 0 4 (pair 10 never 2 2 zPair)
 
--- THE FIELDS of each file, in order, numbered from 1
-abbrev pub fields : Kind → List Col
--- CODIGO, TIPO, NOMBRE_C, DEFINICI
-fields Catalogo = code ∷ alone Tipo 1 true ∷ words 60 ∷ words 60 ∷ []
--- own id, composite id, node id, CODIGO, name, orientation, M, position
-fields ObPun = need 10 ∷ may 10 ∷ may 10 ∷ code ∷ words 60 ∷ may 5 ∷ may 3 ∷ position
--- own id, composite id, CODIGO, LITERAL, height, width, orientation, justification, position
-fields ObTex = need 10 ∷ may 10 ∷ code ∷ words 60 ∷ need 3 ∷ may 3 ∷ may 5 ∷ need 1 ∷ position
--- own id, composite id, CODIGO, name, centroid
-fields ObLin = need 10 ∷ may 10 ∷ code ∷ words 60 ∷ centroid
--- own id, linear object id, perimeter id, line id, CODIGO, start node, end node, sense
-fields Tramo = need 10 ∷ need 10 ∷ may 10 ∷ may 10 ∷ code ∷ need 10 ∷ need 10 ∷ alone Sense 1 false ∷ []
--- line id, order, position
-fields Vertice = need 10 ∷ need 5 ∷ position
+-- A FILE: its number; the letter of its objects' catalogue type, 0 where it has none; of how many fields, the first ones, its key is
+-- made; its fields in order, numbered from 1
+pub record Row : Type 0 where
+  pub file : ℕ
+  pub letter : ℕ
+  pub keys : ℕ
+  pub fields : List Col
+
+-- THE ROWS
+abbrev pub rowOf : Kind → Row
+-- CODIGO, TIPO, NOMBRE_C, DEFINICI. Its own CODIGO refers to nothing
+rowOf Catalogo = record {
+  file = 1;
+  letter = 0;
+  keys = 1;
+  fields = single Code 7 always Any Free ∷ single Words 1 always ObjectType Free ∷ freeWord ∷ freeWord ∷ [];
+}
+-- own id, composite id, node id, CODIGO (type P), name, orientation, M, position
+rowOf ObPun = record {
+  file = 2;
+  letter = 80;
+  keys = 1;
+  fields = need 10 ∷ noFileYet ∷ mayNameA Nodo ∷ code ∷ freeWord ∷ may 5 ∷ may 3 ∷ position;
+}
+-- own id, composite id, CODIGO (type X), LITERAL, height, width, orientation, justification, position
+rowOf ObTex = record {
+  file = 3;
+  letter = 88;
+  keys = 1;
+  fields = need 10 ∷ noFileYet ∷ code ∷ freeWord ∷ need 3 ∷ may 3 ∷ may 5 ∷ need 1 ∷ position;
+}
+-- own id, composite id, CODIGO (type L), name, centroid
+rowOf ObLin = record {
+  file = 4;
+  letter = 76;
+  keys = 1;
+  fields = need 10 ∷ noFileYet ∷ code ∷ freeWord ∷ centroid;
+}
+-- own id, linear object id, perimeter id, line id, CODIGO (type T), start node, end node, sense
+rowOf Tramo = record {
+  file = 5;
+  letter = 84;
+  keys = 1;
+  fields = need 10 ∷ needsA ObLin ∷ noFileYet ∷ ownLine ∷ code ∷ needsA Nodo ∷ needsA Nodo ∷ single Words 1 never PlusMinus Free ∷ [];
+}
+-- line id, which a tramo uses, order, position
+rowOf Vertice = record {
+  file = 6;
+  letter = 0;
+  keys = 2;
+  fields = single Number 10 always Any (To Tramo 4) ∷ need 5 ∷ position;
+}
 -- own id, TIPO (in the base any byte of the A set), position
-fields Nodo = need 10 ∷ words 1 ∷ position
+rowOf Nodo = record {
+  file = 7;
+  letter = 0;
+  keys = 1;
+  fields = need 10 ∷ words 1 ∷ position;
+}
+
+-- the kinds, in the order of their files' numbers
+abbrev pub kinds : List Kind
+kinds = Catalogo ∷ ObPun ∷ ObTex ∷ ObLin ∷ Tramo ∷ Vertice ∷ Nodo ∷ []
+
+-- a file has at most so many records
+abbrev pub limit : ℕ
+limit = 16384
+
+-- of all rows: the bytes of the longest record, the fields of the record with most, the bytes of the widest field
+abbrev pub longest : ℕ
+longest = 149
+
+abbrev pub mostFields : ℕ
+mostFields = 14
+
+abbrev pub widest : ℕ
+widest = 60
+
+-- WHAT IS READ OFF THE ROWS
+abbrev pub fileOf : Kind → ℕ
+fileOf k = rowOf k .file
+
+abbrev pub letterOf : Kind → ℕ
+letterOf k = rowOf k .letter
+
+abbrev pub keysOf : Kind → ℕ
+keysOf k = rowOf k .keys
+
+abbrev pub fields : Kind → List Col
+fields k = rowOf k .fields
 
 -- the columns by place: the whole record, then the fields from 1
 abbrev pub cols : Kind → List Col
 cols k = whole ∷ fields k
+
+-- the kind of a file's number
+unfoldable pub whichOf : ℕ → Which
+whichOf n = getD (NoFile ∷ map File kinds) n NoFile
 
 -- a field's bytes with the byte after them; place 0 takes none
 abbrev pub roomIn : ℕ → ℕ
@@ -112,14 +239,29 @@ formAt k f = colAt k f .form
 unfoldable pub widthAt : Kind → ℕ → ℕ
 widthAt k f = colAt k f .width
 
-unfoldable pub mustAt : Kind → ℕ → Bool
+unfoldable pub mustAt : Kind → ℕ → Must
 mustAt k f = colAt k f .must
 
-unfoldable pub beforeAt : Kind → ℕ → ℕ
-beforeAt k f = colAt k f .before
+unfoldable pub backAt : Kind → ℕ → ℕ
+backAt k f = colAt k f .back
 
-unfoldable pub afterAt : Kind → ℕ → ℕ
-afterAt k f = colAt k f .after
+unfoldable pub aheadAt : Kind → ℕ → ℕ
+aheadAt k f = colAt k f .ahead
+
+unfoldable pub domainAt : Kind → ℕ → Domain
+domainAt k f = colAt k f .domain
+
+-- what field f of the kind refers to: Free to nothing, Nowhere to a file that is not there, To k g to the records of k by what their
+-- field g names
+unfoldable pub targetOf : Kind → ℕ → Target
+targetOf k f = colAt k f .refers
+
+unfoldable pub ownAt : Kind → ℕ → Bool
+ownAt k f = colAt k f .own
+
+-- free words (document 01), which no rule from 30 on reads
+unfoldable pub isFreeWord : Kind → ℕ → Bool
+isFreeWord k f = colAt k f .free
 
 -- where a field begins in its record
 unfoldable pub offsetAt : Kind → ℕ → ℕ
@@ -133,41 +275,10 @@ fieldsOf k = length (fields k)
 abbrev pub lengthOf : Kind → ℕ
 lengthOf k = lengthIn (fields k)
 
--- a file has at most so many records
-abbrev pub limit : ℕ
-limit = 16384
-
--- the key is the first of so many fields: CODIGO, the own id, in VERTICE line and order together
-abbrev pub keysOf : Kind → ℕ
-keysOf Catalogo = 1
-keysOf ObPun = 1
-keysOf ObTex = 1
-keysOf ObLin = 1
-keysOf Tramo = 1
-keysOf Vertice = 2
-keysOf Nodo = 1
-
--- the files' numbers
-abbrev pub fileOf : Kind → ℕ
-fileOf Catalogo = 1
-fileOf ObPun = 2
-fileOf ObTex = 3
-fileOf ObLin = 4
-fileOf Tramo = 5
-fileOf Vertice = 6
-fileOf Nodo = 7
-
--- the kind of a file's number
-unfoldable pub whichOf : ℕ → Which
-whichOf n =
-    getD (NoFile ∷ File Catalogo ∷ File ObPun ∷ File ObTex ∷ File ObLin ∷ File Tramo ∷ File Vertice ∷ File Nodo ∷ []) n NoFile
-
 -- an N field
 abbrev pub isN : Form → Bool
 isN Words = false
 isN Code = false
-isN Tipo = false
-isN Sense = false
 isN Sign = false
 isN Number = true
 isN Size = true
@@ -175,40 +286,28 @@ isN Size = true
 abbrev pub isCode : Form → Bool
 isCode Words = false
 isCode Code = true
-isCode Tipo = false
-isCode Sense = false
 isCode Sign = false
 isCode Number = false
 isCode Size = false
 
--- THE CODE'S TABLES. A form's number,
-abbrev pub codeOf : Form → ℕ
-codeOf Words = 0
-codeOf Code = 1
-codeOf Tipo = 2
-codeOf Sense = 3
-codeOf Sign = 4
-codeOf Number = 5
-codeOf Size = 6
+abbrev pub isSign : Form → Bool
+isSign Words = false
+isSign Code = false
+isSign Sign = true
+isSign Number = false
+isSign Size = false
 
-unfoldable pub formOf : ℕ → Form
-formOf n = getD (Words ∷ Code ∷ Tipo ∷ Sense ∷ Sign ∷ Number ∷ Size ∷ []) n Words
+abbrev pub isSize : Form → Bool
+isSize Words = false
+isSize Code = false
+isSize Sign = false
+isSize Number = false
+isSize Size = true
 
--- of each kind one number for an attribute of its places, with a digit to the base 16 for each, place 0 the lowest
-abbrev pub packed : (ℕ → ℕ) → ℕ → ℕ
-packed g zero = 0
-packed g (suc n) = g 0 + 16 * packed (λ f. g (suc f)) n
+-- the field of X, the first coordinate's number; Y is two fields after it, Z four. 0 where the file has none
+abbrev pub firstSize : List Col → ℕ → ℕ
+firstSize [] f = 0
+firstSize (c ∷ cs) f = pick (isSize (c .form)) f (firstSize cs (suc f))
 
--- by cases, so that it computes where the kind is known and only there
-abbrev pub packedOf : (List Col → ℕ → ℕ) → Kind → ℕ
-packedOf g Catalogo = packed (g (cols Catalogo)) 16
-packedOf g ObPun = packed (g (cols ObPun)) 16
-packedOf g ObTex = packed (g (cols ObTex)) 16
-packedOf g ObLin = packed (g (cols ObLin)) 16
-packedOf g Tramo = packed (g (cols Tramo)) 16
-packedOf g Vertice = packed (g (cols Vertice)) 16
-packedOf g Nodo = packed (g (cols Nodo)) 16
-
--- and the digit of a place
-abbrev pub digitOf : ℕ → ℕ → ℕ
-digitOf n f = n / 2 ^ (4 * f) % 16
+abbrev pub xField : Kind → ℕ
+xField k = firstSize (fields k) 1

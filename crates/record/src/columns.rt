@@ -1,5 +1,5 @@
 // What the records of a file say, for the layers above: the count, and of a record (counted from 0) and a field whether it is
-// missing, the number, the coordinate (at the number's field), the text's first byte, and what is said as one number. Past the last record and field nothing is said.
+// missing, the number, the text's first byte, and what is said as one number. Past the last record and field nothing is said.
 use crate::cut::field;
 use crate::cut::record_bytes;
 use crate::cut::records;
@@ -7,7 +7,6 @@ use crate::kind::Form;
 use crate::kind::Kind;
 use field::class::Class;
 use field::class::byte;
-use field::number::get_coordinate;
 use field::number::get_number;
 use field::words::word;
 ghost use mathlib.Core.Path.{_≡_};
@@ -16,7 +15,7 @@ ghost use mathlib.Core.List.{[]};
 ghost use Prim.Native.Nat.{ℕ, _+_, _<_, _≤_, _^_, _-_};
 ghost use Rattle.record.specs.Table.{formAt, isN};
 ghost use Rattle.record.specs.Cut.{textOf};
-ghost use Rattle.record.specs.Says.{saidIn, saidAs, tableOf, isMissing, numberIn, coordinateIn, keyIn, letterIn, placeIn};
+ghost use Rattle.record.specs.Says.{saidIn, saidAs, tableOf, isMissing, numberIn, keyIn, letterIn, placeIn};
 
 // What is said in a field of a form, by its bytes. Only of a coordinate's size the bytes before it matter, which are its sign.
 fn is_missing_in(form: Form, t: &[u8]) -> bool
@@ -34,15 +33,6 @@ pub fn number_in(form: Form, t: &[u8]) -> u64
 {
     match form {
         Form::Number => get_number(t),
-        _ => 0,
-    }
-}
-
-fn coordinate_in(form: Form, t: &[u8], b: &[u8]) -> i64
-    ensures { λ r. ⌜ r ≡ coordinateIn (saidAs form (now (t .entry)) (now (b .entry))) ⌝ }
-{
-    match form {
-        Form::Size => get_coordinate(b, t),
         _ => 0,
     }
 }
@@ -119,13 +109,6 @@ pub fn number(s: &[u8], k: Kind, i: usize, f: usize) -> u64
     ensures small { λ r. ⌜ r < 2 ^ 38 ⌝ }
 {
     number_in(k.form(f), field(record_bytes(s, k, i), k, f))
-}
-
-pub fn coordinate(s: &[u8], k: Kind, i: usize, f: usize) -> i64
-    ensures { λ r. ⌜ r ≡ coordinateIn (tableOf (now (s .entry)) k .says i f) ⌝ }
-{
-    let rec = record_bytes(s, k, i);
-    coordinate_in(k.form(f), field(rec, k, f), field_before(rec, k, f))
 }
 
 // What is said as one number, by which keys and references are compared.

@@ -11,7 +11,7 @@ ghost use mathlib.Core.Path.{_≡_};
 ghost use mathlib.Core.Bool.{true};
 ghost use Prim.Native.Nat.{ℕ, _+_, _<_};
 ghost use Rattle.record.specs.Breaks.{recordFinding};
-ghost use Rattle.record.specs.Glance.{cut, barAt, full, fullOrBlank, needAt, mayAt, codeAt, tipoAt, senseIn, signIn, signedAt, goneAt, positionAt, nowhereAt, endAt};
+ghost use Rattle.record.specs.machinery.Glance.{cut, barAt, full, fullOrBlank, needAt, mayAt, codeAt, tipoAt, senseIn, signIn, signedAt, goneAt, positionAt, nowhereAt, endAt};
 
 fn has_bar(rec: &[u8], o: usize) -> bool
     ensures { λ r. ⌜ r ≡ barAt (now (rec .entry)) o ⌝ }

@@ -1,9 +1,34 @@
 // The kinds of file: constants and functions of a kind.
+//
+// The rows of specs/Table.antt, as files and fields are numbered. Every number here and in table.rt is proved to be that table's; a
+// further kind is one variant, one line here, and one arm in each match.
+//
+//   1 CATALOGO, 133 bytes: 1 CODIGO A7, 2 TIPO A1, 3 NOMBRE_C A60, 4 DEFINICI A60
+//   2 OB_PUN, 149 bytes: 1 own id N10, 2 composite id N10, 3 node id N10, 4 CODIGO A7, 5 name A60, 6 orientation N5, 7 M N3, 8
+//     sign A1, 9 X N9, 10 sign A1, 11 Y N10, 12 sign A1, 13 Z N8
+//   3 OB_TEX, 144 bytes: 1 own id N10, 2 composite id N10, 3 CODIGO A7, 4 LITERAL A60, 5 height N3, 6 width N3, 7 orientation
+//     N5, 8 justification N1, 9 sign A1, 10 X N9, 11 sign A1, 12 Y N10, 13 sign A1, 14 Z N8
+//   4 OB_LIN, 128 bytes: 1 own id N10, 2 composite id N10, 3 CODIGO A7, 4 name A60, 5 sign A1, 6 X N9, 7 sign A1, 8 Y N10, 9
+//     sign A1, 10 Z N8
+//   5 TRAMO, 77 bytes: 1 own id N10, 2 linear object N10, 3 perimeter id N10, 4 line id N10, 5 CODIGO A7, 6 start node N10, 7
+//     end node N10, 8 sense A1
+//   6 VERTICE, 54 bytes: 1 line id N10, 2 order N5, 3 sign A1, 4 X N9, 5 sign A1, 6 Y N10, 7 sign A1, 8 Z N8
+//   7 NODO, 50 bytes: 1 own id N10, 2 TIPO A1, 3 sign A1, 4 X N9, 5 sign A1, 6 Y N10, 7 sign A1, 8 Z N8
 ghost use mathlib.Core.Path.{_≡_};
-ghost use Prim.Native.Nat.{_+_, _*_, _/_, _%_, _<_};
-ghost use lib.ListN.{getD};
-ghost use Rattle.laws.specs.Row.{pick};
-ghost use Rattle.record.specs.Table.{whole, offsetIn, digitOf, packedOf, codeOf, formAt, widthAt, mustAt, beforeAt, afterAt, offsetAt, fieldsOf, lengthOf, keysOf, fileOf, whichOf, isN, isCode, formOf};
+ghost use Rattle.record.specs.Table.{fieldsOf, lengthOf, keysOf, fileOf, letterOf, xField, whichOf, isN, isCode};
+
+// How many kinds there are.
+pub const FILES: usize = 7;
+
+// At most so many records a file.
+pub const LIMIT: usize = 16384;
+
+// Of all rows: the bytes of the longest record, the fields of the record with most, the bytes of the widest field.
+pub const LONGEST: usize = 149;
+
+pub const MOST_FIELDS: usize = 14;
+
+pub const WIDEST: usize = 60;
 
 pub enum Kind {
     Catalogo,
@@ -21,46 +46,27 @@ pub enum Which {
     File(Kind),
 }
 
-// What a field holds: a text, a CODIGO, a catalogue TIPO, a sense, a sign; a number, the size of a coordinate.
+// What a field holds: words, a CODIGO, a coordinate's sign; a number, the size of a coordinate.
 pub enum Form {
     Words,
     Code,
-    Tipo,
-    Sense,
     Sign,
     Number,
     Size,
 }
 
-// The digit of a place in a kind's number.
-fn digit(n: u64, f: usize) -> usize
-    requires { ⌜ f < 16 ⌝ }
-    ensures { λ r. ⌜ r ≡ digitOf n f ⌝ }
-{
-    ((n >> (4 * f)) % 16) as usize
+// What a field's bytes may be, where they are sound: anything; P, X, L or T; + or -.
+pub enum Domain {
+    Any,
+    ObjectType,
+    PlusMinus,
 }
 
-// What has its two digits in two numbers.
-fn two_digits(high: u64, low: u64, f: usize) -> usize
-    requires { ⌜ f < 16 ⌝ }
-    ensures { λ r. ⌜ r ≡ digitOf high f * 16 + digitOf low f ⌝ }
-    ensures small { λ r. ⌜ r < 256 ⌝ }
-{
-    digit(high, f) * 16 + digit(low, f)
-}
-
-fn form_of(n: usize) -> Form
-    ensures { λ r. ⌜ r ≡ formOf n ⌝ }
-{
-    match n {
-        1 => Form::Code,
-        2 => Form::Tipo,
-        3 => Form::Sense,
-        4 => Form::Sign,
-        5 => Form::Number,
-        6 => Form::Size,
-        _ => Form::Words,
-    }
+// What a field refers to: nothing; a record of a file that is not there; the records of a kind, by a field of theirs.
+pub enum Target {
+    Free,
+    Nowhere,
+    To(Kind, usize),
 }
 
 impl Form {
@@ -71,8 +77,6 @@ impl Form {
         match self {
             Form::Words => false,
             Form::Code => false,
-            Form::Tipo => false,
-            Form::Sense => false,
             Form::Sign => false,
             Form::Number => true,
             Form::Size => true,
@@ -85,8 +89,6 @@ impl Form {
         match self {
             Form::Words => false,
             Form::Code => true,
-            Form::Tipo => false,
-            Form::Sense => false,
             Form::Sign => false,
             Form::Number => false,
             Form::Size => false,
@@ -125,6 +127,36 @@ impl Kind {
         }
     }
 
+    // The letter of its objects' catalogue type, 0 where it has none.
+    pub fn letter(self) -> u8
+        ensures { λ r. ⌜ r ≡ letterOf self ⌝ }
+    {
+        match self {
+            Kind::Catalogo => 0,
+            Kind::ObPun => 80,
+            Kind::ObTex => 88,
+            Kind::ObLin => 76,
+            Kind::Tramo => 84,
+            Kind::Vertice => 0,
+            Kind::Nodo => 0,
+        }
+    }
+
+    // The key is the first of so many fields.
+    pub fn keys(self) -> usize
+        ensures { λ r. ⌜ r ≡ keysOf self ⌝ }
+    {
+        match self {
+            Kind::Catalogo => 1,
+            Kind::ObPun => 1,
+            Kind::ObTex => 1,
+            Kind::ObLin => 1,
+            Kind::Tramo => 1,
+            Kind::Vertice => 2,
+            Kind::Nodo => 1,
+        }
+    }
+
     // The number of fields.
     pub fn fields(self) -> usize
         ensures { λ r. ⌜ r ≡ fieldsOf self ⌝ }
@@ -155,199 +187,18 @@ impl Kind {
         }
     }
 
-    // The key is the first of so many fields.
-    pub fn keys(self) -> usize
-        ensures { λ r. ⌜ r ≡ keysOf self ⌝ }
+    // The field of X, 0 where it has none; Y is two fields after it, Z four.
+    pub fn x_field(self) -> usize
+        ensures { λ r. ⌜ r ≡ xField self ⌝ }
     {
         match self {
-            Kind::Catalogo => 1,
-            Kind::ObPun => 1,
-            Kind::ObTex => 1,
-            Kind::ObLin => 1,
-            Kind::Tramo => 1,
-            Kind::Vertice => 2,
-            Kind::Nodo => 1,
+            Kind::Catalogo => 0,
+            Kind::ObPun => 9,
+            Kind::ObTex => 10,
+            Kind::ObLin => 6,
+            Kind::Tramo => 0,
+            Kind::Vertice => 4,
+            Kind::Nodo => 4,
         }
-    }
-
-    // The tables of fields: one number a kind, with four bits for each place, place 0 the lowest. (An array would be built anew at each
-    // read; a match on the kind is a table.) The numbers of the forms, as form_of has them,
-    fn forms(self) -> u64
-        ensures { λ r. ⌜ r ≡ packedOf (λ cs f. codeOf (getD cs f whole .form)) self ⌝ }
-    {
-        match self {
-            Kind::Catalogo => 0x0000000000000210,
-            Kind::ObPun => 0x0064646455015550,
-            Kind::ObTex => 0x0646464555501550,
-            Kind::ObLin => 0x0000064646401550,
-            Kind::Tramo => 0x0000000355155550,
-            Kind::Vertice => 0x0000000646464550,
-            Kind::Nodo => 0x0000000646464050,
-        }
-    }
-
-    // the widths, by their two digits to the base 16,
-    fn widths_high(self) -> u64
-        ensures { λ r. ⌜ r ≡ packedOf (λ cs f. getD cs f whole .width / 16) self ⌝ }
-    {
-        match self {
-            Kind::Catalogo => 0x0000000000033000,
-            Kind::ObPun => 0x0000000000300000,
-            Kind::ObTex => 0x0000000000030000,
-            Kind::ObLin => 0x0000000000030000,
-            Kind::Tramo => 0x0000000000000000,
-            Kind::Vertice => 0x0000000000000000,
-            Kind::Nodo => 0x0000000000000000,
-        }
-    }
-
-    fn widths_low(self) -> u64
-        ensures { λ r. ⌜ r ≡ packedOf (λ cs f. getD cs f whole .width % 16) self ⌝ }
-    {
-        match self {
-            Kind::Catalogo => 0x00000000000cc170,
-            Kind::ObPun => 0x0081a19135c7aaa0,
-            Kind::ObTex => 0x081a1911533c7aa0,
-            Kind::ObLin => 0x0000081a191c7aa0,
-            Kind::Tramo => 0x00000001aa7aaaa0,
-            Kind::Vertice => 0x000000081a1915a0,
-            Kind::Nodo => 0x000000081a1911a0,
-        }
-    }
-
-    // where the places begin in the record,
-    fn offsets_high(self) -> u64
-        ensures { λ r. ⌜ r ≡ packedOf (λ cs f. offsetIn cs f / 16) self ⌝ }
-    {
-        match self {
-            Kind::Catalogo => 0x8888888888840000,
-            Kind::ObPun => 0x9988777766221000,
-            Kind::ObTex => 0x8887766665511000,
-            Kind::ObLin => 0x7777777665511000,
-            Kind::Tramo => 0x4444444433221000,
-            Kind::Vertice => 0x3333333221111000,
-            Kind::Nodo => 0x3333333221100000,
-        }
-    }
-
-    fn offsets_low(self) -> u64
-        ensures { λ r. ⌜ r ≡ packedOf (λ cs f. offsetIn cs f % 16) self ⌝ }
-    {
-        match self {
-            Kind::Catalogo => 0x444444444447a800,
-            Kind::ObPun => 0x44b9ec20c6916b00,
-            Kind::ObTex => 0xf6497db93fbe6b00,
-            Kind::ObLin => 0xfffff6497dbe6b00,
-            Kind::Tramo => 0xcccccccaf4c16b00,
-            Kind::Vertice => 0x5555555cafd31b00,
-            Kind::Nodo => 0x111111186b9fdb00,
-        }
-    }
-
-    // 1 where the place may not be missing,
-    fn musts(self) -> u64
-        ensures { λ r. ⌜ r ≡ packedOf (λ cs f. pick (getD cs f whole .must) 1 0) self ⌝ }
-    {
-        match self {
-            Kind::Catalogo => 0x0000000000000110,
-            Kind::ObPun => 0x0000111100010010,
-            Kind::ObTex => 0x0001111100101010,
-            Kind::ObLin => 0x0000000000001010,
-            Kind::Tramo => 0x0000000011100110,
-            Kind::Vertice => 0x0000000001111110,
-            Kind::Nodo => 0x0000000001111010,
-        }
-    }
-
-    // how many fields before the place are its partners,
-    fn befores(self) -> u64
-        ensures { λ r. ⌜ r ≡ packedOf (λ cs f. getD cs f whole .before) self ⌝ }
-    {
-        match self {
-            Kind::Catalogo => 0x0000000000000000,
-            Kind::ObPun => 0x0010101000000000,
-            Kind::ObTex => 0x0101010000000000,
-            Kind::ObLin => 0x0000010321000000,
-            Kind::Tramo => 0x0000000000000000,
-            Kind::Vertice => 0x0000000101010000,
-            Kind::Nodo => 0x0000000101010000,
-        }
-    }
-
-    // and how many after it.
-    fn afters(self) -> u64
-        ensures { λ r. ⌜ r ≡ packedOf (λ cs f. getD cs f whole .after) self ⌝ }
-    {
-        match self {
-            Kind::Catalogo => 0x0000000000000000,
-            Kind::ObPun => 0x0001010100000000,
-            Kind::ObTex => 0x0010101000000000,
-            Kind::ObLin => 0x0000001234500000,
-            Kind::Tramo => 0x0000000000000000,
-            Kind::Vertice => 0x0000000010101000,
-            Kind::Nodo => 0x0000000010101000,
-        }
-    }
-
-    // What a field holds; place 0 and those past the last field are texts of no bytes.
-    pub fn form(self, f: usize) -> Form
-        ensures { λ r. ⌜ r ≡ formAt self f ⌝ }
-    {
-        if f < 16 {
-            form_of(digit(self.forms(), f))
-        } else {
-            Form::Words
-        }
-    }
-
-    // The width of a field, and 0 of any other place.
-    pub fn width(self, f: usize) -> usize
-        ensures { λ r. ⌜ r ≡ widthAt self f ⌝ }
-        ensures small { λ r. ⌜ r < 256 ⌝ }
-    {
-        if f < 16 {
-            two_digits(self.widths_high(), self.widths_low(), f)
-        } else {
-            0
-        }
-    }
-
-    // Where a field begins in the record.
-    pub fn offset(self, f: usize) -> usize
-        ensures { λ r. ⌜ r ≡ offsetAt self f ⌝ }
-        ensures small { λ r. ⌜ r < 256 ⌝ }
-    {
-        if f < 16 {
-            two_digits(self.offsets_high(), self.offsets_low(), f)
-        } else {
-            self.length() - 1
-        }
-    }
-
-    // Whether a field may not be missing.
-    pub fn must(self, f: usize) -> bool
-        ensures { λ r. ⌜ r ≡ mustAt self f ⌝ }
-    {
-        if f < 16 {
-            digit(self.musts(), f) == 1
-        } else {
-            false
-        }
-    }
-
-    // How many fields before a field are its partners,
-    pub fn before(self, f: usize) -> usize
-        ensures { λ r. ⌜ r ≡ beforeAt self f ⌝ }
-        ensures small { λ r. ⌜ r < 256 ⌝ }
-    {
-        if f < 16 { digit(self.befores(), f) } else { 0 }
-    }
-
-    // and how many after it.
-    pub fn after(self, f: usize) -> usize
-        ensures { λ r. ⌜ r ≡ afterAt self f ⌝ }
-        ensures small { λ r. ⌜ r < 256 ⌝ }
-    {
-        if f < 16 { digit(self.afters(), f) } else { 0 }
     }
 }

@@ -7,3 +7,4 @@ mod glance;
 pub mod kind;
 pub mod reason;
 mod rules;
+mod table;

@@ -1,5 +1,6 @@
 // The rules of a record's fields, reasons 20 to 25: a test for each, true where the rule is broken.
 use crate::cut::field;
+use crate::kind::Domain;
 use crate::kind::Form;
 use crate::kind::Kind;
 use field::class::Class;
@@ -10,11 +11,13 @@ use field::words::trimmed_len;
 ghost use mathlib.Core.Path.{_≡_};
 ghost use mathlib.Core.Bool.{_&&_, _||_, not};
 ghost use Prim.Native.Nat.{_+_, _-_, _<_};
+ghost use lib.Dec.{eqb};
+ghost use lib.ListN.{getD};
 ghost use Rattle.field.specs.Bytes.{allOf};
 ghost use Rattle.field.specs.Texts.{trimmed, notGiven};
-ghost use Rattle.record.specs.Table.{mustAt, isN, isCode};
+ghost use Rattle.record.specs.Table.{required, mustAt, domainAt, isN, isCode, isSign};
 ghost use Rattle.record.specs.Cut.{textOf};
-ghost use Rattle.record.specs.Rules.{breaks20, breaks21, notText, partnersBlank, isSignByte, outside, twenties};
+ghost use Rattle.record.specs.Rules.{breaks20, breaks21, notText, partnersBlank, isSignByte, inDomain, outside, twenties};
 
 // 20: the record doesn't end in 0D 0A.
 fn bad_end(rec: &[u8], k: Kind, f: usize) -> bool
@@ -83,8 +86,8 @@ fn partners_blank(rec: &[u8], k: Kind, f: usize) -> bool
     requires { ⌜ f < 256 ⌝ }
     ensures { λ r. ⌜ r ≡ partnersBlank (now (rec .entry)) k f ⌝ }
 {
-    let from = minus(f, k.before(f));
-    let n = k.before(f) + k.after(f) + 1;
+    let from = minus(f, k.back(f));
+    let n = k.back(f) + k.ahead(f) + 1;
     let mut j = 0;
     while j < n {
         if blank_field(rec, k, from + j) {
@@ -101,12 +104,12 @@ fn partners_blank(rec: &[u8], k: Kind, f: usize) -> bool
 fn lacking(rec: &[u8], k: Kind, f: usize, gone: bool, blank: bool) -> bool
     requires { ⌜ f < 256 ⌝ }
     requires known { ⌜ blank ≡ allOf Class.Blank (textOf (now rec) k f) ⌝ }
-    ensures { λ r. ⌜ r ≡ (gone && (mustAt k f || not (partnersBlank (now (rec .entry)) k f))) ⌝ }
+    ensures { λ r. ⌜ r ≡ (gone && (required (mustAt k f) || not (partnersBlank (now (rec .entry)) k f))) ⌝ }
 {
     if gone {
         if k.must(f) {
             true
-        } else if k.before(f) + k.after(f) == 0 {
+        } else if k.back(f) + k.ahead(f) == 0 {
             !blank
         } else {
             !partners_blank(rec, k, f)
@@ -122,40 +125,38 @@ fn is_sign_byte(b: u8) -> bool
     (b == 43) | (b == 45)
 }
 
-impl Form {
-    // Whether a text is outside the form's domain; next is the text of the next field.
-    pub fn outside(self, t: &[u8], next: &[u8]) -> bool
-        ensures { λ r. ⌜ r ≡ outside self (now (t .entry)) (now (next .entry)) ⌝ }
+impl Domain {
+    // Whether a field's bytes are within the domain.
+    pub fn has(self, t: &[u8]) -> bool
+        ensures { λ r. ⌜ r ≡ inDomain self (now (t .entry)) ⌝ }
     {
         let b = byte(t, 0);
         match self {
-            Form::Words => false,
-            Form::Code => false,
-            Form::Tipo => !((b == 80) | (b == 88) | (b == 76) | (b == 84)),
-            Form::Sense => !is_sign_byte(b),
-            Form::Sign => {
-                if b == 45 {
-                    Class::Zero.all(next)
-                } else {
-                    b != 43
-                }
-            }
-            Form::Number => false,
-            Form::Size => false,
+            Domain::Any => true,
+            Domain::ObjectType => (b == 80) | (b == 88) | (b == 76) | (b == 84),
+            Domain::PlusMinus => is_sign_byte(b),
         }
     }
 }
 
-// 25: outside its domain, of a field that is sound: not damaged, not missing. The next field is cut for a sign alone.
+// Whether - stands before zero; the next field is cut for a sign alone.
+fn minus_zero(rec: &[u8], k: Kind, f: usize, form: Form, t: &[u8]) -> bool
+    requires { ⌜ f < 256 ⌝ }
+    ensures { λ r. ⌜ r ≡ (isSign form && (eqb (getD (now (t .entry)) 0 0) 45 && allOf Class.Zero (textOf (now (rec .entry)) k (f + 1)))) ⌝ }
+{
+    match form {
+        Form::Sign => (byte(t, 0) == 45) & Class::Zero.all(field(rec, k, f + 1)),
+        _ => false,
+    }
+}
+
+// 25: outside its domain, of a field that is sound: not damaged, not missing.
 fn unfit(rec: &[u8], k: Kind, f: usize, form: Form, t: &[u8], sound: bool) -> bool
     requires { ⌜ f < 256 ⌝ }
-    ensures { λ r. ⌜ r ≡ (sound && outside form (now (t .entry)) (textOf (now (rec .entry)) k (f + 1))) ⌝ }
+    ensures { λ r. ⌜ r ≡ (sound && outside form (domainAt k f) (now (t .entry)) (textOf (now (rec .entry)) k (f + 1))) ⌝ }
 {
     if sound {
-        match form {
-            Form::Sign => form.outside(t, field(rec, k, f + 1)),
-            _ => form.outside(t, t),
-        }
+        !k.domain(f).has(t) | minus_zero(rec, k, f, form, t)
     } else {
         false
     }

@@ -1,6 +1,6 @@
 -- `record::glance::code` meets its contract.
 -- Assumes nothing.
-use Rattle.record.specs.Glance.{codeAt}
+use Rattle.record.specs.machinery.Glance.{codeAt}
 use borrow.Author.Needs.{needs}
 use Rattle.record.proofs.glance.code.Statement.{statement}
 use Rattle.record.proofs.glance.code.Tie as tie

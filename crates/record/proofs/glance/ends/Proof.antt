@@ -1,6 +1,6 @@
 -- `record::glance::ends` meets its contract.
 -- Assumes nothing.
-use Rattle.record.specs.Glance.{endAt}
+use Rattle.record.specs.machinery.Glance.{endAt}
 use borrow.Author.Needs.{needs}
 use Rattle.record.proofs.glance.ends.Statement.{statement}
 use Rattle.record.proofs.glance.ends.Tie as tie

@@ -1,6 +1,6 @@
 -- `record::glance::gone` meets its contract.
 -- Assumes nothing.
-use Rattle.record.specs.Glance.{goneAt}
+use Rattle.record.specs.machinery.Glance.{goneAt}
 use borrow.Author.Needs.{needs}
 use Rattle.record.proofs.glance.gone.Statement.{statement}
 use Rattle.record.proofs.glance.gone.Tie as tie

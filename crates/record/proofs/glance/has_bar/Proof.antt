@@ -1,6 +1,6 @@
 -- `record::glance::has_bar` meets its contract.
 -- Assumes nothing.
-use Rattle.record.specs.Glance.{barAt}
+use Rattle.record.specs.machinery.Glance.{barAt}
 use borrow.Author.Needs.{needs}
 use Rattle.record.proofs.glance.has_bar.Statement.{statement}
 use Rattle.record.proofs.glance.has_bar.Tie as tie

@@ -1,6 +1,6 @@
 -- `record::glance::is_full` meets its contract.
 -- Assumes nothing.
-use Rattle.record.specs.Glance.{full}
+use Rattle.record.specs.machinery.Glance.{full}
 use borrow.Author.Needs.{needs}
 use Rattle.record.proofs.glance.is_full.Statement.{statement}
 use Rattle.record.proofs.glance.is_full.Tie as tie

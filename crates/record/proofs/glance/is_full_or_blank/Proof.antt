@@ -1,6 +1,6 @@
 -- `record::glance::is_full_or_blank` meets its contract.
 -- Assumes nothing.
-use Rattle.record.specs.Glance.{fullOrBlank}
+use Rattle.record.specs.machinery.Glance.{fullOrBlank}
 use borrow.Author.Needs.{needs}
 use Rattle.record.proofs.glance.is_full_or_blank.Statement.{statement}
 use Rattle.record.proofs.glance.is_full_or_blank.Tie as tie

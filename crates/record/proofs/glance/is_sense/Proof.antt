@@ -1,6 +1,6 @@
 -- `record::glance::is_sense` meets its contract.
 -- Assumes nothing.
-use Rattle.record.specs.Glance.{senseIn}
+use Rattle.record.specs.machinery.Glance.{senseIn}
 use borrow.Author.Needs.{needs}
 use Rattle.record.proofs.glance.is_sense.Statement.{statement}
 use Rattle.record.proofs.glance.is_sense.Tie as tie

@@ -1,6 +1,6 @@
 -- `record::glance::is_sign` meets its contract.
 -- Assumes nothing.
-use Rattle.record.specs.Glance.{signIn}
+use Rattle.record.specs.machinery.Glance.{signIn}
 use borrow.Author.Needs.{needs}
 use Rattle.record.proofs.glance.is_sign.Statement.{statement}
 use Rattle.record.proofs.glance.is_sign.Tie as tie

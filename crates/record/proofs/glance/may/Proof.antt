@@ -1,6 +1,6 @@
 -- `record::glance::may` meets its contract.
 -- Assumes nothing.
-use Rattle.record.specs.Glance.{mayAt}
+use Rattle.record.specs.machinery.Glance.{mayAt}
 use borrow.Author.Needs.{needs}
 use Rattle.record.proofs.glance.may.Statement.{statement}
 use Rattle.record.proofs.glance.may.Tie as tie

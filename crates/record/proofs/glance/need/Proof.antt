@@ -1,6 +1,6 @@
 -- `record::glance::need` meets its contract.
 -- Assumes nothing.
-use Rattle.record.specs.Glance.{needAt}
+use Rattle.record.specs.machinery.Glance.{needAt}
 use borrow.Author.Needs.{needs}
 use Rattle.record.proofs.glance.need.Statement.{statement}
 use Rattle.record.proofs.glance.need.Tie as tie

@@ -3,7 +3,7 @@
 use mathlib.Core.Path.{sym}
 use denote.Ref.{now}
 use Rattle.laws.proofs.FindLaws.{true-false}
-use Rattle.record.specs.Glance.{nowhereAt}
+use Rattle.record.specs.machinery.Glance.{nowhereAt}
 use Rattle.record.proofs.GlanceLaws.{nowhere-inside}
 use borrow.Author.Needs.{needs}
 use Rattle.record.proofs.glance.nowhere.Statement.{statement}

@@ -1,6 +1,6 @@
 -- `record::glance::signed` meets its contract.
 -- Assumes nothing.
-use Rattle.record.specs.Glance.{signedAt}
+use Rattle.record.specs.machinery.Glance.{signedAt}
 use borrow.Author.Needs.{needs}
 use Rattle.record.proofs.glance.signed.Statement.{statement}
 use Rattle.record.proofs.glance.signed.Tie as tie

@@ -1,6 +1,6 @@
 -- `record::glance::tipo` meets its contract.
 -- Assumes nothing.
-use Rattle.record.specs.Glance.{tipoAt}
+use Rattle.record.specs.machinery.Glance.{tipoAt}
 use borrow.Author.Needs.{needs}
 use Rattle.record.proofs.glance.tipo.Statement.{statement}
 use Rattle.record.proofs.glance.tipo.Tie as tie

@@ -4,7 +4,7 @@ use mathlib.Core.Path.{refl, ap, _∙_}
 use denote.Ref.{now}
 use Rattle.record.specs.declared.kind.Kind.the-variants.{Tramo}
 use Rattle.record.specs.Table.{colAt, offsetAt}
-use Rattle.record.specs.Glance.{senseIn}
+use Rattle.record.specs.machinery.Glance.{senseIn}
 use Rattle.record.proofs.GlanceLaws.{seen-end, seen-need, seen-may, seen-code, seen-sense, seen-fine, seen-none}
 use borrow.Author.Needs.{needs}
 use Rattle.record.proofs.glance.tramo.Statement.{statement}

@@ -11,11 +11,11 @@ use Rattle.record.proofs.rules.lacking.Tie as tie
 must-requires : tie.Need-must-requires
 must-requires c κs = search needs
 
-before-requires : tie.Need-before-requires
-before-requires c κs = search needs
+back-requires : tie.Need-back-requires
+back-requires c κs = search needs
 
-after-requires : tie.Need-after-requires
-after-requires c κs = search needs
+ahead-requires : tie.Need-ahead-requires
+ahead-requires c κs = search needs
 
 add-if3 : tie.Need-add-if3
 add-if3 c = search needs
@@ -45,8 +45,8 @@ lacking-spec =
     tie.close
     (tie.spec
     must-requires
-    before-requires
-    after-requires
+    back-requires
+    ahead-requires
     add-if3
     partners-blank-requires
     returns

@@ -1,11 +1,13 @@
--- `Kind::form` meets its contract: its table is that of `formAt`, by the numbers of the forms.
+-- `Kind::form` meets its contract: its table is that of `formAt`, by the digits of its cases.
 -- Assumes nothing.
 use borrow.Author.Needs.{needs}
 use mathlib.Core.Path.{refl, ap, _∙_}
 use lib.ListN.{getD}
 use Rattle.laws.specs.Row.{row, each}
-use Rattle.record.specs.Table.{Col, whole, colAt, formAt, codeOf, formOf}
-use Rattle.record.proofs.TableLaws.{everywhere, read, form-code, past}
+use Rattle.record.specs.Table.{Col, whole, colAt, formAt}
+use Rattle.record.specs.machinery.Packed.{formDigit, formOf}
+use Rattle.record.proofs.TableLaws.{everywhere, past}
+use Rattle.record.proofs.PackedLaws.{read, form-digit}
 use Rattle.record.proofs.kind.Kind.form.Statement.{statement}
 use Rattle.record.proofs.kind.Kind.form.Tie as tie
 
@@ -23,8 +25,8 @@ unfolding everywhere each row colAt formAt
 returns c =
     let a = c .before .before .before .before .args in
     c .form-of .ensures
-    ∙ ap formOf (c .before .digit .ensures ∙ read (λ cs f. codeOf (getD cs f whole .form)) refl (a .self) (a .f) (c .before .before .forms .ensures) (c .before .before .before .if1 .taken))
-    ∙ form-code (formAt (a .self) (a .f))
+    ∙ ap formOf (c .before .digit .ensures ∙ read (λ cs f. formDigit (getD cs f whole .form)) refl (a .self) (a .f) (c .before .before .forms .ensures) (c .before .before .before .if1 .taken))
+    ∙ form-digit (formAt (a .self) (a .f))
 
 returns-2 : tie.Need-returns-2
 unfolding formAt

@@ -5,7 +5,8 @@ use native.Mathlib.Omega.{arith}
 use mathlib.Core.Path.{refl, _∙_}
 use Rattle.laws.specs.Row.{row, each}
 use Rattle.record.specs.Table.{offsetIn, offsetAt}
-use Rattle.record.proofs.TableLaws.{everywhere, read-two, sane, offset-end}
+use Rattle.record.proofs.TableLaws.{everywhere, sane, offset-end}
+use Rattle.record.proofs.PackedLaws.{read-two}
 use Rattle.record.proofs.kind.Kind.offset.Statement.{statement}
 use Rattle.record.proofs.kind.Kind.offset.Tie as tie
 

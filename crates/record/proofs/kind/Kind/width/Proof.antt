@@ -5,7 +5,8 @@ use mathlib.Core.Path.{refl, _∙_}
 use lib.ListN.{getD}
 use Rattle.laws.specs.Row.{row, each}
 use Rattle.record.specs.Table.{Col, whole, colAt, widthAt}
-use Rattle.record.proofs.TableLaws.{everywhere, read-two, past}
+use Rattle.record.proofs.TableLaws.{everywhere, past}
+use Rattle.record.proofs.PackedLaws.{read-two}
 use Rattle.record.proofs.kind.Kind.width.Statement.{statement}
 use Rattle.record.proofs.kind.Kind.width.Tie as tie
 

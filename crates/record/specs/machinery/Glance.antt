@@ -1,4 +1,4 @@
--- A glance at a record's bytes: tests that hold only where nothing is broken (GlanceLaws.antt). They are no rules: where one of them
+-- Machinery: a glance at a record's bytes: tests that hold only where nothing is broken (GlanceLaws.antt). No promise cites this file. They are no rules: where one of them
 -- fails, the rules are asked (Rules.antt).
 -- Assumes nothing.
 use Prim.Native.Nat.{ℕ, _+_}
