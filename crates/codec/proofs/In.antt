@@ -3,7 +3,7 @@
 use Prim.Native.Nat.{ℕ, zero, suc, _+_, _-_, _<_, _≤_}
 use mathlib.Core.Bool.{Bool, true, false, not, _||_}
 use mathlib.Core.List.{List, []}
-use mathlib.Core.Path.{_≡_, refl, sym, ap, _∙_}
+use mathlib.Core.Path.{_≡_, refl, sym, ap, _∙_, subst}
 use native.Mathlib.Numerals.{add-one}
 use native.Mathlib.Omega.{arith}
 use lib.ListN.{length, getD, drop, length-take, length-drop}
@@ -16,14 +16,17 @@ use Rattle.laws.proofs.RowLaws.{then-false, neither, less, same-test, length-ro
 use Rattle.field.specs.declared.class.Class.the-variants.{Blank}
 use Rattle.field.specs.Bytes.{allOf}
 use Rattle.record.specs.declared.kind.Kind.{Kind}
+use Rattle.record.specs.declared.kind.Form.{Form}
 use Rattle.record.specs.declared.kind.Form.the-variants.{Sign, Size}
+use Rattle.record.specs.declared.kind.Domain.the-variants.{PlusMinus}
 use Rattle.record.specs.declared.reason.Finding.the-variants.{Fine}
-use Rattle.record.specs.Table.{colAt, formAt, widthAt, mustAt, beforeAt, afterAt, offsetAt, fieldsOf, lengthOf, isN, codeOf}
+use Rattle.record.specs.Table.{colAt, formAt, widthAt, mustAt, backAt, aheadAt, domainAt, offsetAt, fieldsOf, lengthOf, widest, required, isN}
+use Rattle.record.specs.machinery.Packed.{formDigit}
 use Rattle.record.specs.Cut.{textOf}
 use Rattle.record.specs.Rules.{missingIn, outside, partnersBlank, breaks22, breaks23, breaks24, breaks25, twenties}
 use Rattle.record.specs.Breaks.{atPlace, findingOf, recordFinding}
 use Rattle.record.specs.Says.{Said, saidAs, saidIn}
-use Rattle.record.proofs.TableLaws.{sane, widths, within}
+use Rattle.record.proofs.TableLaws.{sane, widths, DomainFits, domain-fits, within}
 use Rattle.codec.specs.Values.{noValue, saidBy, valueOf, valueAt, valuesSay, valuesIn}
 use Rattle.codec.specs.Writes.{bytesAs, fieldBytes, joined, encode}
 use Rattle.codec.specs.Refusals.{tooLarge, badSaid, blankAs, blankAt, missingAs, partnersMissing, refuses62, refuses63, refuses64, refuses65, sixties, sixtyReasons, valueBreaks, valuesFinding}
@@ -51,7 +54,7 @@ module _ (k : Kind) (v w : ℕ → Said) (same : (f : ℕ) → f ≤ fieldsOf k 
   partners-same : (f : ℕ) → f ≤ fieldsOf k → partnersMissing k v f ≡ partnersMissing k w f
   unfolding partnersMissing
   partners-same f h =
-      ap (each (λ b. b)) (row-same _ _ _ (λ j l. blank-same (f - beforeAt k f + j) (omega (arith, partners-within k f h))))
+      ap (each (λ b. b)) (row-same _ _ _ (λ j l. blank-same (f - backAt k f + j) (omega (arith, partners-within k f h))))
 
   sixties-same : (f : ℕ) → f ≤ fieldsOf k → sixties k v f ≡ sixties k w f
   unfolding refuses62 refuses63 refuses64 refuses65
@@ -75,7 +78,7 @@ module _ (s : List ℕ) (k : Kind) (i : ℕ) (l : length s ≡ lengthOf k) (ok :
   place f h u = record-fine s k i .0 ok f u h
 
   -- a field that is not missing is in its domain
-  inside : (f : ℕ) → f ≤ fieldsOf k → missingIn (formAt k f) (textOf s k f) ≡ false → outside (formAt k f) (textOf s k f) (textOf s k (f + 1)) ≡ false
+  inside : (f : ℕ) → f ≤ fieldsOf k → missingIn (formAt k f) (textOf s k f) ≡ false → outside (formAt k f) (domainAt k f) (textOf s k f) (textOf s k (f + 1)) ≡ false
   unfolding breaks25
   inside f h m =
       let a : breaks22 s k f ≡ false = place f h 2 in
@@ -83,13 +86,13 @@ module _ (s : List ℕ) (k : Kind) (i : ℕ) (l : length s ≡ lengthOf k) (ok :
       rw (a, b, m) at (place f h 5)
 
   -- where a field is blank, its partners are
-  partner-blank : (f j : ℕ) → f ≤ fieldsOf k → j < beforeAt k f + afterAt k f + 1 → allOf Blank (textOf s k f) ≡ true → allOf Blank (textOf s k (f - beforeAt k f + j)) ≡ true
+  partner-blank : (f j : ℕ) → f ≤ fieldsOf k → j < backAt k f + aheadAt k f + 1 → allOf Blank (textOf s k f) ≡ true → allOf Blank (textOf s k (f - backAt k f + j)) ≡ true
   unfolding breaks24 partnersBlank
   partner-blank f j h m e =
-      let g : ℕ → List ℕ = λ j. textOf s k (f - beforeAt k f + j) in
-      let n = beforeAt k f + afterAt k f + 1 in
-      let b = then-false (missingIn (formAt k f) (textOf s k f)) (mustAt k f || not (partnersBlank s k f)) (place f h 4) (missing-blank (formAt k f) (textOf s k f) e) in
-      let p : partnersBlank s k f ≡ true = not-false (partnersBlank s k f) (neither (mustAt k f) (not (partnersBlank s k f)) b .1) in
+      let g : ℕ → List ℕ = λ j. textOf s k (f - backAt k f + j) in
+      let n = backAt k f + aheadAt k f + 1 in
+      let b = then-false (missingIn (formAt k f) (textOf s k f)) (required (mustAt k f) || not (partnersBlank s k f)) (place f h 4) (missing-blank (formAt k f) (textOf s k f) e) in
+      let p : partnersBlank s k f ≡ true = not-false (partnersBlank s k f) (neither (required (mustAt k f)) (not (partnersBlank s k f)) b .1) in
       ap (allOf Blank) (sym (row-at g n [] m)) ∙ each-at (allOf Blank) (row g n) j [] p (rw length-row m)
 
   -- a sign is blank exactly where its number is
@@ -98,11 +101,11 @@ module _ (s : List ℕ) (k : Kind) (i : ℕ) (l : length s ≡ lengthOf k) (ok :
       let d = sign-field k f e in
       let a = sign-partner k f e in
       let p = pair-partners k f e in
-      let there : f - beforeAt k f + (beforeAt k f + 1) ≡ f + 1 = omega arith in
-      let back : suc f - beforeAt k (suc f) + beforeAt k f ≡ f = omega arith in
+      let there : f - backAt k f + (backAt k f + 1) ≡ f + 1 = omega arith in
+      let back : suc f - backAt k (suc f) + backAt k f ≡ f = omega arith in
       same-test (allOf Blank (textOf s k f)) (allOf Blank (textOf s k (f + 1)))
-      (λ h. rw there at (partner-blank f (beforeAt k f + 1) (omega arith) (omega arith) h))
-      (λ h. rw back at (partner-blank (suc f) (beforeAt k f) (omega arith) (omega arith) (rw add-one at h)))
+      (λ h. rw there at (partner-blank f (backAt k f + 1) (omega arith) (omega arith) h))
+      (λ h. rw back at (partner-blank (suc f) (backAt k f) (omega arith) (omega arith) (rw add-one at h)))
 
   -- a field that is no sign
   short : (f : ℕ) → isN (formAt k f) ≡ true → length (textOf s k f) ≤ 10
@@ -119,13 +122,16 @@ module _ (s : List ℕ) (k : Kind) (i : ℕ) (l : length s ≡ lengthOf k) (ok :
   size-at f e = rw add-one (sign-next k f e)
 
   number-no-sign : (f : ℕ) → formAt k f ≡ Sign → formAt k (f + 1) ≡ Sign → ⊥
-  number-no-sign f e q = let z : codeOf Size ≡ codeOf Sign = ap codeOf (sym (size-at f e) ∙ q) in omega arith
+  number-no-sign f e q = let z : formDigit Size ≡ formDigit Sign = ap formDigit (sym (size-at f e) ∙ q) in omega arith
 
   number-said : (f : ℕ) → formAt k f ≡ Sign → saidIn s k (f + 1) ≡ saidAs Size (textOf s k (f + 1)) (textOf s k f)
   unfolding saidIn
   number-said f e =
       let q : f + 1 - 1 ≡ f = omega arith in
       rw (size-at f e, q)
+
+  sign-domain : (f : ℕ) → formAt k f ≡ Sign → domainAt k f ≡ PlusMinus
+  sign-domain f e = subst (λ (x : Form). DomainFits x (domainAt k f)) e (domain-fits k f)
 
   -- WRITTEN: the same bytes
   field-back : (f : ℕ) → f ≤ fieldsOf k → fieldBytes k (saidIn s k) f ≡ textOf s k f
@@ -137,7 +143,7 @@ module _ (s : List ℕ) (k : Kind) (i : ℕ) (l : length s ≡ lengthOf k) (ok :
           rw (e, sign-wide k f e, number-said f e)
           (sign-kept (textOf s k f) (textOf s k (f + 1)) (saidIn s k f) (text-length s k f l ∙ sign-wide k f e)
           (short (f + 1) (ap isN (size-at f e))) (rw (size-at f e) at (place (f + 1) (omega (arith, sign-field k f e)) 2)) (pair-blank f e)
-          (λ b. rw e at (inside f h (rw e (sign-there (textOf s k f) b)))))
+          (λ b. rw (e, sign-domain f e) at (inside f h (rw e (sign-there (textOf s k f) b)))))
       go (no n) = rw (← text-length s k f l) (kept-at f h n .same)
 
   pub same-bytes : encode k (saidIn s k) ≡ s
@@ -158,7 +164,7 @@ module _ (s : List ℕ) (k : Kind) (i : ℕ) (l : length s ≡ lengthOf k) (ok :
   partners-back : (f : ℕ) → f ≤ fieldsOf k → partnersMissing k (saidIn s k) f ≡ partnersBlank s k f
   unfolding partnersMissing partnersBlank
   partners-back f h =
-      each-same _ _ _ _ _ (λ j m. blank-back (f - beforeAt k f + j) (omega (arith, partners-within k f h)))
+      each-same _ _ _ _ _ (λ j m. blank-back (f - backAt k f + j) (omega (arith, partners-within k f h)))
 
   missing-back : (f : ℕ) → f ≤ fieldsOf k → missingAs (formAt k f) (saidIn s k f) (saidIn s k (f + 1)) ≡ true → missingIn (formAt k f) (textOf s k f) ≡ true
   unfolding saidIn blankAt
@@ -183,14 +189,14 @@ module _ (s : List ℕ) (k : Kind) (i : ℕ) (l : length s ≡ lengthOf k) (ok :
   sixties-back f h (suc (suc zero)) =
       rw (partners-back f h)
       (less (missingIn (formAt k f) (textOf s k f)) (missingAs (formAt k f) (saidIn s k f) (saidIn s k (f + 1))) _ (missing-back f h) (place f h 4))
-  sixties-back f h (suc (suc (suc zero))) = not-outside (formAt k f) (textOf s k f) (textOf s k (f - 1)) (textOf s k (f + 1)) (inside f h)
+  sixties-back f h (suc (suc (suc zero))) = not-outside (formAt k f) (domainAt k f) (textOf s k f) (textOf s k (f - 1)) (textOf s k (f + 1)) (domain-fits k f) (inside f h)
   sixties-back f h (suc (suc (suc (suc u)))) = refl
 
   pub read-writable : valuesFinding k (saidIn s k) ≡ Fine
   read-writable = values-fine k (saidIn s k) .1 (λ f u h. sixties-back f h u)
 
 -- AS VALUES: the struct says what the record says
-text-short : (s : List ℕ) (k : Kind) (f : ℕ) → length (textOf s k f) ≤ 60
+text-short : (s : List ℕ) (k : Kind) (f : ℕ) → length (textOf s k f) ≤ widest
 unfolding textOf
 text-short s k f = rw length-take (omega (arith, widths k f))
 

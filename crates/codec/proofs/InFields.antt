@@ -21,11 +21,16 @@ use Rattle.field.specs.Texts.{padded, trimmed, notGiven}
 use Rattle.field.proofs.DigitLaws.{digits-of-number, number-of-lt, zero-number, sign-back}
 use Rattle.field.proofs.TextLaws.{blank-is, trimmed-le, trimmed-last, trimmed-first, trimmed-text, trimmed-some, padded-trimmed, first-bytes-padded}
 use Rattle.record.specs.declared.kind.Form.{Form}
-use Rattle.record.specs.declared.kind.Form.the-variants.{Words, Code, Tipo, Sense, Sign, Number, Size}
-use Rattle.record.specs.Table.{isN, codeOf, formOf}
-use Rattle.record.specs.Rules.{notNumber, notText, missingIn, outside, isSignByte}
+use Rattle.record.specs.declared.kind.Domain.{Domain}
+use Rattle.record.specs.declared.kind.Domain.the-variants.{Any, PlusMinus}
+use Rattle.record.specs.declared.kind.Form.the-variants.{Words, Code, Sign, Number, Size}
+use Rattle.record.specs.Table.{isN, widest}
+use Rattle.record.specs.machinery.Packed.{formDigit, formOf}
+use Rattle.record.specs.Rules.{notNumber, notText, missingIn, inDomain, outside, isSignByte}
 use Rattle.record.specs.Says.{Said, missing, number, text, coordinate, textSaid, saidAs, isMissing}
-use Rattle.record.proofs.TableLaws.{form-code}
+use Rattle.record.proofs.TableLaws.{DomainFits}
+use Rattle.record.proofs.PackedLaws.{form-digit}
+use Rattle.record.proofs.SaysLaws.{domain-first}
 use Rattle.codec.specs.Values.{valueOf, saidBy, textBy, textValue}
 use Rattle.codec.specs.Writes.{bytesAs, textBytes, numberBytes, signBytes}
 use Rattle.codec.specs.Refusals.{tooLarge, badText, badSaid, blankAs, missingAs, outsideSaid}
@@ -93,8 +98,6 @@ pub kept :
 unfolding saidAs bytesAs notText notNumber
 kept Words t b next w n e s = text-kept t (not-false (lawfulText t) e)
 kept Code t b next w n e s = text-kept t (not-false (lawfulText t) e)
-kept Tipo t b next w n e s = text-kept t (not-false (lawfulText t) e)
-kept Sense t b next w n e s = text-kept t (not-false (lawfulText t) e)
 kept Sign t b next w n e s = absurd (s refl)
 kept Number t b next w n e s = digits-kept t (number (numberOf t)) (w refl) n refl refl refl refl
 kept Size t b next w n e s =
@@ -115,28 +118,28 @@ pub was-missing : (form : Form) (t b : List ℕ) (next : Said) → (form ≡ Sig
 unfolding saidAs missingIn
 was-missing Words t b next s h = blank-missing (allOf Blank t) false (text (trimmed t)) refl h
 was-missing Code t b next s h = code-missing (allOf Blank t) (trimmed t) h
-was-missing Tipo t b next s h = blank-missing (allOf Blank t) false (text (trimmed t)) refl h
-was-missing Sense t b next s h = blank-missing (allOf Blank t) false (text (trimmed t)) refl h
 was-missing Sign t b next s h = absurd (s refl)
 was-missing Number t b next s h = blank-missing (allOf Blank t) false (number (numberOf t)) refl h
 was-missing Size t b next s h = absurd (true-false (sym h))
 
--- nor is it outside where the bytes are not; a domain is read of the first byte
-text-outside :
-    (form : Form) (t : List ℕ) → (allOf Blank t ≡ false → getD (trimmed t) 0 0 ≡ getD t 0 0 → outside form (trimmed t) [] ≡ false)
-    → outsideSaid form (textSaid t) ≡ false
-text-outside form t e = picked (λ x. outsideSaid form x ≡ false) (allOf Blank t) missing (text (trimmed t)) (λ _. refl) (λ h. e h (trimmed-first t (trimmed-some t h)))
+-- nor is it outside where the bytes are not; only words have a domain that is read, and of their first byte
+within-words : (d : Domain) (t : List ℕ) → allOf Blank t ≡ false → (not (inDomain d t) || false) ≡ false → not (inDomain d (trimmed t)) ≡ false
+within-words d t h e = ap not (domain-first d (trimmed t) t (trimmed-first t (trimmed-some t h))) ∙ sym (or-false (not (inDomain d t))) ∙ e
 
-pub not-outside : (form : Form) (t b next : List ℕ) → (missingIn form t ≡ false → outside form t next ≡ false) → outsideSaid form (saidAs form t b) ≡ false
+never-outside : (d : Domain) → d ≡ Any → (x : Said) → outsideSaid d x ≡ false
+unfolding inDomain
+never-outside d e missing = refl
+never-outside d e (number n) = refl
+never-outside d e (text t) = rw e
+never-outside d e (coordinate z) = refl
+
+pub not-outside : (form : Form) (d : Domain) (t b next : List ℕ) → DomainFits form d → (missingIn form t ≡ false → outside form d t next ≡ false) → outsideSaid d (saidAs form t b) ≡ false
 unfolding saidAs missingIn outside
-not-outside Words t b next e = text-outside Words t (λ h q. refl)
-not-outside Code t b next e = text-outside Code t (λ h q. refl)
-not-outside Tipo t b next e = text-outside Tipo t (λ h q. rw q (e (rw h)))
-not-outside Sense t b next e = text-outside Sense t (λ h q. rw q (e (rw h)))
-not-outside Sign t b next e = refl
-not-outside Number t b next e = picked (λ x. outsideSaid Number x ≡ false) (allOf Blank t) missing (number (numberOf t)) (λ _. refl) (λ h. refl)
-not-outside Size t b next e =
-    picked (λ x. outsideSaid Size x ≡ false) (allOf Blank t) missing (coordinate (signed (eqb (getD b 0 0) 45) (numberOf t))) (λ _. refl) (λ h. refl)
+not-outside Words d t b next fits e = picked (λ x. outsideSaid d x ≡ false) (allOf Blank t) missing (text (trimmed t)) (λ _. refl) (λ h. within-words d t h (e (rw h)))
+not-outside Code d t b next fits e = never-outside d fits (saidAs Code t b)
+not-outside Sign d t b next fits e = refl
+not-outside Number d t b next fits e = never-outside d fits (saidAs Number t b)
+not-outside Size d t b next fits e = never-outside d fits (saidAs Size t b)
 
 -- A SIGN, which is blank where its number n is: it is written as its coordinate's
 sign-byte : (z : ℤ) (c : ℕ) → isSignByte c ≡ true → isNeg z ≡ eqb c 45 → signByte z ≡ c
@@ -146,9 +149,9 @@ sign-byte z c e q = rw q (go (eqb c 45) refl e)
     go true h e = sym (eqb-true c 45 h)
     go false h e = sym (eqb-true c 43 (sym (or-false (eqb c 43)) ∙ e))
 
-one-sign : (c : ℕ) (n : List ℕ) → length n ≤ 10 → allOf Digit n ≡ true → outside Sign (c ∷ []) n ≡ false
+one-sign : (c : ℕ) (n : List ℕ) → length n ≤ 10 → allOf Digit n ≡ true → outside Sign PlusMinus (c ∷ []) n ≡ false
     → padded 1 (signByte (signed (eqb c 45) (numberOf n)) ∷ []) ≡ c ∷ []
-unfolding outside padded
+unfolding inDomain outside padded
 one-sign c n l d o =
     let p = neither (not (isSignByte c)) (eqb c 45 && allOf Zero n) o in
     let zero-minus : eqb c 45 ≡ true → numberOf n ≡ 0 → ⊥ =
@@ -163,7 +166,7 @@ one-byte (c ∷ b ∷ t) e = absurd (omega arith)
 
 pub sign-kept :
     (t n : List ℕ) (own : Said) → length t ≡ 1 → length n ≤ 10 → notNumber Size n ≡ false → allOf Blank t ≡ allOf Blank n
-    → (allOf Blank t ≡ false → outside Sign t n ≡ false) → bytesAs Sign 1 own (saidAs Size n t) ≡ t
+    → (allOf Blank t ≡ false → outside Sign PlusMinus t n ≡ false) → bytesAs Sign 1 own (saidAs Size n t) ≡ t
 unfolding saidAs bytesAs notNumber
 sign-kept t n own w l e q o = go (allOf Blank n) refl
   where
@@ -174,10 +177,10 @@ sign-kept t n own w l e q o = go (allOf Blank n) refl
     go true h = sym (blank-is t (q ∙ h) ∙ ap blanks w)
     go false h =
         let same = one-byte t w in
-        one-sign c n l (not-false (allOf Digit n) (rw h at e)) (ap (λ (x : List ℕ). outside Sign x n) (sym same) ∙ o (q ∙ h)) ∙ sym same
+        one-sign c n l (not-false (allOf Digit n) (rw h at e)) (ap (λ (x : List ℕ). outside Sign PlusMinus x n) (sym same) ∙ o (q ∙ h)) ∙ sym same
 
 -- AS A VALUE
-text-says : (t : List ℕ) → length t ≤ 60 → textBy (valueOf (textSaid t)) ≡ textSaid t
+text-says : (t : List ℕ) → length t ≤ widest → textBy (valueOf (textSaid t)) ≡ textSaid t
 unfolding valueOf textValue
 text-says t l =
     picked (λ x. textBy (valueOf x) ≡ x) (allOf Blank t) missing (text (trimmed t)) (λ _. refl)
@@ -186,12 +189,10 @@ text-says t l =
     let m = trimmed-le t in
     rw (ne-eqb (length (trimmed t)) 0 (λ e. omega arith), first-bytes-padded (trimmed t) 60 (omega arith)))
 
-pub value-says : (form : Form) (t b : List ℕ) → length t ≤ 60 → saidBy form (valueOf (saidAs form t b)) ≡ saidAs form t b
+pub value-says : (form : Form) (t b : List ℕ) → length t ≤ widest → saidBy form (valueOf (saidAs form t b)) ≡ saidAs form t b
 unfolding saidAs valueOf
 value-says Words t b l = text-says t l
 value-says Code t b l = text-says t l
-value-says Tipo t b l = text-says t l
-value-says Sense t b l = text-says t l
 value-says Sign t b l = refl
 value-says Number t b l = picked (λ x. saidBy Number (valueOf x) ≡ x) (allOf Blank t) missing (number (numberOf t)) (λ _. refl) (λ h. refl)
 value-says Size t b l =
@@ -204,8 +205,6 @@ pub heard :
 unfolding bytesAs
 heard Words w own a b e = (refl, refl, refl)
 heard Code w own a b e = (refl, refl, refl)
-heard Tipo w own a b e = (refl, refl, refl)
-heard Sense w own a b e = (refl, refl, refl)
 heard Sign w own a b e = (ap (signBytes w) (e refl), ap isMissing (e refl), ap isMissing (e refl))
 heard Number w own a b e = (refl, refl, refl)
 heard Size w own a b e = (refl, refl, refl)
@@ -213,19 +212,17 @@ heard Size w own a b e = (refl, refl, refl)
 pub blank-own : (form : Form) (own next : Said) → (form ≡ Sign → ⊥) → blankAs form own next ≡ isMissing own
 blank-own Words own next s = refl
 blank-own Code own next s = refl
-blank-own Tipo own next s = refl
-blank-own Sense own next s = refl
 blank-own Sign own next s = absurd (s refl)
 blank-own Number own next s = refl
 blank-own Size own next s = refl
 
 pub sign-or : (form : Form) → Dec (form ≡ Sign)
 unfolding formOf
-sign-or form = go (ℕ-discrete (codeOf form) (codeOf Sign))
+sign-or form = go (ℕ-discrete (formDigit form) (formDigit Sign))
   where
-    go : Dec (codeOf form ≡ codeOf Sign) → Dec (form ≡ Sign)
-    go (yes e) = yes (sym (form-code form) ∙ ap formOf e)
-    go (no n) = no (λ e. n (ap codeOf e))
+    go : Dec (formDigit form ≡ formDigit Sign) → Dec (form ≡ Sign)
+    go (yes e) = yes (sym (form-digit form) ∙ ap formOf e)
+    go (no n) = no (λ e. n (ap formDigit e))
 
 -- a blank field is missing, and a sign is so only then
 pub missing-blank : (form : Form) (t : List ℕ) → allOf Blank t ≡ true → missingIn form t ≡ true

@@ -20,12 +20,14 @@ use Rattle.field.proofs.DigitLaws.{length-digits}
 use Rattle.field.proofs.TextLoops.{length-padded}
 use Rattle.record.specs.declared.kind.Kind.{Kind}
 use Rattle.record.specs.declared.kind.Form.{Form}
-use Rattle.record.specs.declared.kind.Form.the-variants.{Words, Code, Tipo, Sense, Sign, Number, Size}
-use Rattle.record.specs.Table.{Col, roomIn, colAt, formAt, widthAt, beforeAt, afterAt, mustAt, offsetAt, fieldsOf, lengthOf, codeOf, formOf}
+use Rattle.record.specs.declared.kind.Form.the-variants.{Words, Code, Sign, Number, Size}
+use Rattle.record.specs.Table.{Col, roomIn, colAt, formAt, widthAt, backAt, aheadAt, mustAt, offsetAt, fieldsOf, lengthOf, required}
+use Rattle.record.specs.machinery.Packed.{formDigit, formOf}
 use Rattle.record.specs.Cut.{textOf}
 use Rattle.record.specs.Rules.{breaks20, breaks21}
 use Rattle.record.specs.Says.{Said, missing, number, text, coordinate}
-use Rattle.record.proofs.TableLaws.{each-getD, sane, col-past, offset-next, within, offset-end, everywhere, every-place, form-code, one-picked}
+use Rattle.record.proofs.TableLaws.{each-getD, sane, col-past, offset-next, within, offset-end, everywhere, every-place}
+use Rattle.record.proofs.PackedLaws.{form-digit, one-picked}
 use Rattle.codec.specs.Writes.{numberBytes, signBytes, textBytes, bytesAs, fieldBytes, ending, joined, fieldsBytes, encode}
 
 -- THE TABLE
@@ -39,40 +41,40 @@ module _ (guard : Kind → ℕ → Bool) (tests : Kind → ℕ → List Bool) wh
 
 -- a form, by its number; past the last field every form is Words
 isForm : Form → Form → Bool
-isForm x y = eqb (codeOf x) (codeOf y)
+isForm x y = eqb (formDigit x) (formDigit y)
 
 form-is : (x y : Form) → isForm x y ≡ true → x ≡ y
 unfolding isForm
-form-is x y e = sym (form-code x) ∙ ap formOf (eqb-true (codeOf x) (codeOf y) e) ∙ form-code y
+form-is x y e = sym (form-digit x) ∙ ap formOf (eqb-true (formDigit x) (formDigit y) e) ∙ form-digit y
 
 is-form : (x y : Form) → x ≡ y → isForm x y ≡ true
 unfolding isForm
-is-form x y e = eq-eqb (codeOf x) (codeOf y) (ap codeOf e)
+is-form x y e = eq-eqb (formDigit x) (formDigit y) (ap formDigit e)
 
-form-past : (k : Kind) (f : ℕ) (x : Form) → formAt k f ≡ x → 0 < codeOf x → f ≤ fieldsOf k
+form-past : (k : Kind) (f : ℕ) (x : Form) → formAt k f ≡ x → 0 < formDigit x → f ≤ fieldsOf k
 unfolding formAt
 form-past k f x e n = go (decLe f (fieldsOf k))
   where
     go : Dec (f ≤ fieldsOf k) → f ≤ fieldsOf k
     go (yes l) = l
-    go (no m) = let z : codeOf x ≡ 0 = ap codeOf (sym e ∙ ap (λ (c : Col). c .form) (col-past k f (omega arith))) in omega arith
+    go (no m) = let z : formDigit x ≡ 0 = ap formDigit (sym e ∙ ap (λ (c : Col). c .form) (col-past k f (omega arith))) in omega arith
 
 -- a field has a width, and its partners are fields
 fieldTests : Kind → ℕ → List Bool
-fieldTests k f = (leb f 0 || leb 1 (widthAt k f)) ∷ leb (beforeAt k f) f ∷ leb (f + afterAt k f) (fieldsOf k) ∷ []
+fieldTests k f = (leb f 0 || leb 1 (widthAt k f)) ∷ leb (backAt k f) f ∷ leb (f + aheadAt k f) (fieldsOf k) ∷ []
 
 field-test : (k : Kind) (f : ℕ) → f ≤ fieldsOf k → (i : ℕ) → getD (fieldTests k f) i true ≡ true
-unfolding everywhere each row colAt widthAt beforeAt afterAt fieldTests
+unfolding everywhere each row colAt widthAt backAt aheadAt fieldTests
 field-test k f l i = passed (λ j g. leb g (fieldsOf j)) fieldTests refl k f (omega (arith, sane k)) (le-leb f (fieldsOf k) l) i
 
 -- a sign is one byte; its number is next, with the same partners, and may be missing like it
 signTests : Kind → ℕ → List Bool
 signTests k f =
-    leb 1 f ∷ eqb (widthAt k f) 1 ∷ isForm (formAt k (suc f)) Size ∷ eqb (beforeAt k (suc f)) (suc (beforeAt k f))
-    ∷ eqb (afterAt k f) (suc (afterAt k (suc f))) ∷ eqb (pick (mustAt k (suc f)) 1 0) (pick (mustAt k f) 1 0) ∷ []
+    leb 1 f ∷ eqb (widthAt k f) 1 ∷ isForm (formAt k (suc f)) Size ∷ eqb (backAt k (suc f)) (suc (backAt k f))
+    ∷ eqb (aheadAt k f) (suc (aheadAt k (suc f))) ∷ eqb (pick (required (mustAt k (suc f))) 1 0) (pick (required (mustAt k f)) 1 0) ∷ []
 
 sign-test : (k : Kind) (f : ℕ) → formAt k f ≡ Sign → (i : ℕ) → getD (signTests k f) i true ≡ true
-unfolding everywhere each row colAt formAt widthAt beforeAt afterAt mustAt isForm signTests
+unfolding everywhere each row colAt formAt widthAt backAt aheadAt mustAt isForm signTests
 sign-test k f e i =
     let l = form-past k f Sign e (omega arith) in
     passed (λ j g. isForm (formAt j g) Sign) signTests refl k f (omega (arith, sane k)) (is-form (formAt k f) Sign e) i
@@ -90,7 +92,7 @@ unfolding fieldTests
 wide k f a b = leb-true 1 (widthAt k f) (rw (lt-leb f 0) at (field-test k f b 0))
 
 -- the partners of a field are fields
-pub partners-within : (k : Kind) (f : ℕ) → f ≤ fieldsOf k → (beforeAt k f ≤ f) × (f + afterAt k f ≤ fieldsOf k)
+pub partners-within : (k : Kind) (f : ℕ) → f ≤ fieldsOf k → (backAt k f ≤ f) × (f + aheadAt k f ≤ fieldsOf k)
 unfolding fieldTests
 partners-within k f h = (leb-true _ _ (field-test k f h 1), leb-true _ _ (field-test k f h 2))
 
@@ -109,18 +111,18 @@ module _ (k : Kind) (f : ℕ) (e : formAt k f ≡ Sign) where
   sign-field = (leb-true _ _ (sign-test k f e 0), form-past k (suc f) Size sign-next (omega arith))
 
   -- sign and number have the same partners, and both may be missing or neither
-  pub pair-partners : (beforeAt k (suc f) ≡ suc (beforeAt k f)) × (afterAt k f ≡ suc (afterAt k (suc f))) × (mustAt k (suc f) ≡ mustAt k f)
+  pub pair-partners : (backAt k (suc f) ≡ suc (backAt k f)) × (aheadAt k f ≡ suc (aheadAt k (suc f))) × (required (mustAt k (suc f)) ≡ required (mustAt k f))
   unfolding signTests
   pair-partners = (
     eqb-true _ _ (sign-test k f e 3),
     eqb-true _ _ (sign-test k f e 4),
-    same-must (mustAt k (suc f)) (mustAt k f) (eqb-true _ _ (sign-test k f e 5)),
+    same-must (required (mustAt k (suc f))) (required (mustAt k f)) (eqb-true _ _ (sign-test k f e 5)),
   )
     where
       same-must : (a b : Bool) → _≡_ {A = ℕ} (pick a 1 0) (pick b 1 0) → a ≡ b
       same-must a b q = sym (one-picked a) ∙ ap (λ (n : ℕ). eqb n 1) q ∙ one-picked b
 
-  pub sign-partner : (beforeAt k f ≤ f) × (1 ≤ afterAt k f)
+  pub sign-partner : (backAt k f ≤ f) × (1 ≤ aheadAt k f)
   sign-partner = (partners-within k f (omega (arith, sign-field)) .0, omega (arith, pair-partners))
 
 -- JOINED AND CUT
@@ -146,8 +148,6 @@ pub length-bytes : (x : Form) (w : ℕ) (own next : Said) → length (bytesAs x 
 unfolding bytesAs
 length-bytes Words w own next = length-text w own
 length-bytes Code w own next = length-text w own
-length-bytes Tipo w own next = length-text w own
-length-bytes Sense w own next = length-text w own
 length-bytes Sign w own next = length-sign w next
 length-bytes Number w own next = length-number w own
 length-bytes Size w own next = length-number w own

@@ -20,14 +20,14 @@ use Rattle.field.specs.Texts.{firstBytes}
 use Rattle.field.proofs.TextLoops.{length-first}
 use Rattle.record.specs.declared.kind.Kind.{Kind}
 use Rattle.record.specs.declared.kind.Form.{Form}
-use Rattle.record.specs.declared.kind.Form.the-variants.{Words, Code, Tipo, Sense, Sign, Number, Size}
+use Rattle.record.specs.declared.kind.Form.the-variants.{Words, Code, Sign, Number, Size}
 use Rattle.record.specs.declared.reason.Finding.the-variants.{Fine}
-use Rattle.record.specs.Table.{colAt, formAt, widthAt, mustAt, beforeAt, afterAt, fieldsOf}
+use Rattle.record.specs.Table.{colAt, formAt, widthAt, mustAt, backAt, aheadAt, domainAt, fieldsOf}
 use Rattle.record.specs.Cut.{textOf}
 use Rattle.record.specs.Rules.{breaks22, breaks23, breaks24, breaks25, notNumber, notText, missingIn, outside, partnersBlank, twenties}
 use Rattle.record.specs.Breaks.{recordFinding}
 use Rattle.record.specs.Says.{Said, missing, number, text, coordinate, isMissing, saidIn}
-use Rattle.record.proofs.TableLaws.{widths}
+use Rattle.record.proofs.TableLaws.{widths, domain-fits}
 use Rattle.codec.specs.declared.values.Value.{Value}
 use Rattle.codec.specs.declared.values.Values.{Values}
 use Rattle.codec.specs.Values.{saidBy, textBy, valueAt, valuesSay}
@@ -50,8 +50,6 @@ said-shaped : (form : Form) (x : Value) → shaped form (saidBy form x) ≡ true
 unfolding shaped
 said-shaped Words x = text-shaped x
 said-shaped Code x = text-shaped x
-said-shaped Tipo x = text-shaped x
-said-shaped Sense x = text-shaped x
 said-shaped Sign x = refl
 said-shaped Number x = picked (λ s. shaped Number s ≡ true) (x .given) _ _ (λ _. refl) (λ _. refl)
 said-shaped Size x = picked (λ s. shaped Size s ≡ true) (x .given) _ _ (λ _. refl) (λ _. refl)
@@ -85,7 +83,7 @@ module _ (s : List ℕ) (k : Kind) where
   none-23 = refl
 
   none-24 : breaks24 s k 0 ≡ false
-  unfolding breaks24 mustAt formAt colAt textOf widthAt allOf each missingIn partnersBlank beforeAt afterAt row
+  unfolding breaks24 mustAt formAt colAt textOf widthAt allOf each missingIn partnersBlank backAt aheadAt row
   none-24 = refl
 
   none-25 : breaks25 s k 0 ≡ false
@@ -139,15 +137,15 @@ module _ (k : Kind) (v : ℕ → Said) (sh : (f : ℕ) → f ≤ fieldsOf k → 
   unfolding partnersBlank partnersMissing
   partners f b =
       let w = partners-within k f b in
-      each-same (allOf Blank) (λ t. t) _ _ (beforeAt k f + afterAt k f + 1) (λ j l. blank (f - beforeAt k f + j) (omega arith))
+      each-same (allOf Blank) (λ t. t) _ _ (backAt k f + aheadAt k f + 1) (λ j l. blank (f - backAt k f + j) (omega arith))
 
   -- a sign and its number have the same partners
   pair-missing : (f : ℕ) → formAt k f ≡ Sign → partnersMissing k v (suc f) ≡ partnersMissing k v f
   unfolding partnersMissing
   pair-missing f e =
       let w = pair-partners k f e in
-      let p : suc f - beforeAt k (suc f) ≡ f - beforeAt k f = omega arith in
-      let q : beforeAt k (suc f) + afterAt k (suc f) + 1 ≡ beforeAt k f + afterAt k f + 1 = omega arith in
+      let p : suc f - backAt k (suc f) ≡ f - backAt k f = omega arith in
+      let q : backAt k (suc f) + aheadAt k (suc f) + 1 ≡ backAt k f + aheadAt k f + 1 = omega arith in
       ap₂ (λ (x n : ℕ). each (λ t. t) (row (λ j. blankAt k v (x + j)) n)) p q
 
   -- the rules of a field
@@ -165,12 +163,12 @@ module _ (k : Kind) (v : ℕ → Said) (sh : (f : ℕ) → f ≤ fieldsOf k → 
     unfolding breaks24 refuses64
     told-here e = rw (cut f a b, e, partners f b) (kept f 2 b)
 
-    inside : missingIn (formAt k f) (textOf (encode k v) k f) ≡ false → outside (formAt k f) (textOf (encode k v) k f) (textOf (encode k v) k (f + 1)) ≡ false
+    inside : missingIn (formAt k f) (textOf (encode k v) k f) ≡ false → outside (formAt k f) (domainAt k f) (textOf (encode k v) k f) (textOf (encode k v) k (f + 1)) ≡ false
     unfolding missingIn refuses65
     inside e =
         let n : allOf Blank (textOf (encode k v) k f) ≡ false = neither _ _ e .0 in
         rw (cut f a b, add-one f)
-        (out-inside _ _ _ _ (widthAt k (suc f)) _ (rw (add-one f) at (sayable f a b)) (digits-after f) (kept f 3 b) (rw (cut f a b, add-one f) at n))
+        (out-inside _ _ _ _ _ (widthAt k (suc f)) _ (domain-fits k f) (rw (add-one f) at (sayable f a b)) (digits-after f) (kept f 3 b) (rw (cut f a b, add-one f) at n))
 
     keeps-25 : breaks25 (encode k v) k f ≡ false
     unfolding breaks25

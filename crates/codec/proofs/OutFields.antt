@@ -22,10 +22,14 @@ use Rattle.field.proofs.DigitLaws.{length-digits, digits-are, digits-not-blank,
 use Rattle.field.proofs.TextLoops.{length-padded}
 use Rattle.field.proofs.TextLaws.{blanks-are, not-blank-first, padded-first, padded-empty, padded-text, trimmed-blank, trimmed-padded}
 use Rattle.record.specs.declared.kind.Form.{Form}
-use Rattle.record.specs.declared.kind.Form.the-variants.{Words, Code, Tipo, Sense, Sign, Number, Size}
+use Rattle.record.specs.declared.kind.Domain.{Domain}
+use Rattle.record.specs.declared.kind.Domain.the-variants.{Any, PlusMinus}
+use Rattle.record.specs.declared.kind.Form.the-variants.{Words, Code, Sign, Number, Size}
 use Rattle.record.specs.Table.{isN}
-use Rattle.record.specs.Rules.{notNumber, notText, missingIn, isSignByte, outside}
+use Rattle.record.specs.Rules.{notNumber, notText, missingIn, isSignByte, inDomain, outside}
 use Rattle.record.specs.Says.{Said, missing, number, text, coordinate, isMissing, textSaid, saidAs}
+use Rattle.record.proofs.TableLaws.{DomainFits}
+use Rattle.record.proofs.SaysLaws.{domain-first}
 use Rattle.codec.specs.Writes.{numberBytes, signBytes, textBytes, bytesAs}
 use Rattle.codec.specs.Refusals.{tooLarge, badText, badSaid, saysNotGiven, blankAs, missingAs, outsideSaid}
 use Rattle.codec.proofs.Shapes.{isTextual, isNothing, isNumeric, isPlaced, shaped}
@@ -192,8 +196,8 @@ module _ {w : ℕ} (wide : 0 < w) where
   sign-lawful (some z) = ap not (good-lawful (sign-good w wide z))
 
   sign-inside : {next : Said} {m : ℕ} → Placed next → 0 < m → m ≤ 10 → tooLarge m next ≡ false → allOf Blank (signBytes w next) ≡ false
-      → outside Sign (signBytes w next) (numberBytes m next) ≡ false
-  unfolding outside
+      → outside Sign PlusMinus (signBytes w next) (numberBytes m next) ≡ false
+  unfolding inDomain outside
   sign-inside none l h e b = absurd (true-false (sym (blanks-are w) ∙ b))
   sign-inside {m = m} (some z) l h e b = rw (good-first (sign-good w wide z)) (sign-within z _ (digits-zero m (natAbs z) l h e))
 
@@ -217,8 +221,6 @@ pub out-number : (form : Form) (w : ℕ) (own next : Said) → Sayable form w ow
 unfolding notNumber bytesAs shaped
 out-number Words w own next h = refl
 out-number Code w own next h = refl
-out-number Tipo w own next h = refl
-out-number Sense w own next h = refl
 out-number Sign w own next h = refl
 out-number Number w own next h = number-lawful (h .wide) (numeric own (h .shape))
 out-number Size w own next h = place-lawful (h .wide) (placed own (h .shape))
@@ -227,8 +229,6 @@ pub out-text : (form : Form) (w : ℕ) (own next : Said) → Sayable form w own 
 unfolding notText bytesAs shaped
 out-text Words w own next h = text-lawful (textual w own (h .shape) (h .lawful))
 out-text Code w own next h = text-lawful (textual w own (h .shape) (h .lawful))
-out-text Tipo w own next h = text-lawful (textual w own (h .shape) (h .lawful))
-out-text Sense w own next h = text-lawful (textual w own (h .shape) (h .lawful))
 out-text Sign w own next h = sign-lawful (h .wide) (placed next (h .after refl))
 out-text Number w own next h = refl
 out-text Size w own next h = refl
@@ -238,8 +238,6 @@ pub out-blank : (form : Form) (w : ℕ) (own next : Said) → Sayable form w own
 unfolding bytesAs shaped
 out-blank Words w own next h = text-blank (textual w own (h .shape) (h .lawful))
 out-blank Code w own next h = text-blank (textual w own (h .shape) (h .lawful))
-out-blank Tipo w own next h = text-blank (textual w own (h .shape) (h .lawful))
-out-blank Sense w own next h = text-blank (textual w own (h .shape) (h .lawful))
 out-blank Sign w own next h = sign-blank (h .wide) (placed next (h .after refl))
 out-blank Number w own next h = number-blank (h .wide) (numeric own (h .shape))
 out-blank Size w own next h = place-blank (h .wide) (placed own (h .shape))
@@ -250,26 +248,28 @@ pub out-missing : (form : Form) (w : ℕ) (own next : Said) → Sayable form w o
 unfolding missingIn bytesAs shaped
 out-missing Words w own next h = inr (or-false _ ∙ out-blank Words w own next h)
 out-missing Code w own next h = inr (ap₂ _||_ (out-blank Code w own next h) (text-given (textual w own (h .shape) (h .lawful))))
-out-missing Tipo w own next h = inr (or-false _ ∙ out-blank Tipo w own next h)
-out-missing Sense w own next h = inr (or-false _ ∙ out-blank Sense w own next h)
 out-missing Sign w own next h = inr (or-false _ ∙ out-blank Sign w own next h)
 out-missing Number w own next h = inr (or-false _ ∙ out-blank Number w own next h)
 out-missing Size w own next h = inl (refl, or-false _ ∙ out-blank Size w own next h)
 
 -- it lies within its domain; a sign before the digits of its number
-pub out-inside : (form : Form) (w : ℕ) (own next : Said) (m : ℕ) (b : List ℕ) → Sayable form w own next
+any-inside : (d : Domain) → d ≡ Any → (t : List ℕ) → (not (inDomain d t) || false) ≡ false
+unfolding inDomain
+any-inside d e t = rw e
+
+pub out-inside : (form : Form) (d : Domain) (w : ℕ) (own next : Said) (m : ℕ) (b : List ℕ) → DomainFits form d → Sayable form w own next
     → (form ≡ Sign → (0 < m) × (m ≤ 10) × (tooLarge m next ≡ false) × (b ≡ numberBytes m next))
-    → outsideSaid form own ≡ false → allOf Blank (bytesAs form w own next) ≡ false → outside form (bytesAs form w own next) b ≡ false
+    → outsideSaid d own ≡ false → allOf Blank (bytesAs form w own next) ≡ false → outside form d (bytesAs form w own next) b ≡ false
 unfolding outside bytesAs shaped
-out-inside Words w own next m b h s o e = refl
-out-inside Code w own next m b h s o e = refl
-out-inside Tipo w own next m b h s o e = let r = text-first (textual w own (h .shape) (h .lawful)) e in rw (r .2) (rw (r .1) at o)
-out-inside Sense w own next m b h s o e = let r = text-first (textual w own (h .shape) (h .lawful)) e in rw (r .2) (rw (r .1) at o)
-out-inside Sign w own next m b h s o e =
+out-inside Words d w own next m b fits h s o e =
+    let r = text-first (textual w own (h .shape) (h .lawful)) e in
+    or-false (not (inDomain d (textBytes w own))) ∙ ap not (domain-first d (textBytes w own) (r .0) (r .2)) ∙ rw (r .1) at o
+out-inside Code d w own next m b fits h s o e = any-inside d fits (textBytes w own)
+out-inside Sign d w own next m b fits h s o e =
     let r = s refl in
-    rw (r .3) (sign-inside (h .wide) (placed next (h .after refl)) (r .0) (r .1) (r .2) e)
-out-inside Number w own next m b h s o e = refl
-out-inside Size w own next m b h s o e = refl
+    rw (fits, r .3) (sign-inside (h .wide) (placed next (h .after refl)) (r .0) (r .1) (r .2) e)
+out-inside Number d w own next m b fits h s o e = any-inside d fits (numberBytes w own)
+out-inside Size d w own next m b fits h s o e = any-inside d fits (numberBytes w own)
 
 -- and it says what was to be said; of a number of a coordinate, after its sign
 pub out-said : (form : Form) (w : ℕ) (own next : Said) (b : List ℕ) → Sayable form w own next
@@ -277,8 +277,6 @@ pub out-said : (form : Form) (w : ℕ) (own next : Said) (b : List ℕ) → Saya
 unfolding bytesAs shaped saidAs
 out-said Words w own next b h s = text-said (textual w own (h .shape) (h .lawful))
 out-said Code w own next b h s = text-said (textual w own (h .shape) (h .lawful))
-out-said Tipo w own next b h s = text-said (textual w own (h .shape) (h .lawful))
-out-said Sense w own next b h s = text-said (textual w own (h .shape) (h .lawful))
 out-said Sign w own next b h s = nothing own (h .shape)
 out-said Number w own next b h s = number-said (h .wide) (numeric own (h .shape)) (h .narrow refl) (h .fits)
 out-said Size w own next b h s = rw (s refl) (place-said (h .wide) (placed own (h .shape)) (h .narrow refl) (h .fits))

@@ -19,7 +19,7 @@ use Rattle.field.proofs.TextLaws.{trimmed-blank}
 use Rattle.field.proofs.TextLoops.{length-trimmed}
 use Rattle.record.specs.declared.kind.Kind.{Kind}
 use Rattle.record.specs.declared.kind.Form.{Form}
-use Rattle.record.specs.declared.kind.Form.the-variants.{Words, Code, Tipo, Sense, Sign, Number, Size}
+use Rattle.record.specs.declared.kind.Form.the-variants.{Words, Code, Sign, Number, Size}
 use Rattle.record.specs.declared.reason.Finding.{Finding}
 use Rattle.record.specs.declared.reason.Reason.the-variants.{NoSuchRecord66}
 use Rattle.record.specs.Table.{formAt}
@@ -37,8 +37,6 @@ module _ (t b : List ℕ) where
   unfolding saidAs
   blank-says Words h = rw h
   blank-says Code h = rw h
-  blank-says Tipo h = rw h
-  blank-says Sense h = rw h
   blank-says Sign h = refl
   blank-says Number h = rw h
   blank-says Size h = rw h
@@ -68,11 +66,9 @@ module _ (t b : List ℕ) where
   unfolding saidAs
   read-text Words h = text-value
   read-text Code h = text-value
-  read-text Tipo h = text-value
-  read-text Sense h = text-value
-  read-text Sign h = absurd (miss texts 4 tt h)
-  read-text Number h = absurd (miss texts 5 tt h)
-  read-text Size h = absurd (miss texts 6 tt h)
+  read-text Sign h = absurd (miss texts 2 tt h)
+  read-text Number h = absurd (miss texts 3 tt h)
+  read-text Size h = absurd (miss texts 4 tt h)
 
 pub trimmed-part : (t : List ℕ) {n : ℕ} → n ≡ length (trimmed t) → take n (drop 0 t) ≡ trimmed t
 unfolding trimmed

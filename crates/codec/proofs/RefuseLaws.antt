@@ -4,7 +4,7 @@ use Prim.Native.Nat.{ℕ, _+_, _-_, _^_, _≤_, _<_}
 use mathlib.Core.Bool.{Bool, true, false, not, _&&_, _||_}
 use mathlib.Core.List.{List, [], _∷_}
 use mathlib.Core.Option.{Option}
-use mathlib.Core.Path.{_≡_, refl, sym, _∙_}
+use mathlib.Core.Path.{_≡_, refl, sym, _∙_, ap}
 use native.Mathlib.Numerals.{add-one}
 use native.Mathlib.Decide.{decLe}
 use native.Mathlib.Omega.{arith}
@@ -24,13 +24,14 @@ use Rattle.field.proofs.TextLaws.{first-bytes-le}
 use Rattle.field.proofs.TextLoops.{length-first, first-at}
 use Rattle.record.specs.declared.kind.Kind.{Kind}
 use Rattle.record.specs.declared.kind.Form.{Form}
-use Rattle.record.specs.declared.kind.Form.the-variants.{Words, Code, Tipo, Sense, Sign, Number, Size}
+use Rattle.record.specs.declared.kind.Domain.{Domain}
+use Rattle.record.specs.declared.kind.Form.the-variants.{Words, Code, Sign, Number, Size}
 use Rattle.record.specs.declared.reason.Break.{Break}
-use Rattle.record.specs.Table.{colAt, formAt, widthAt, mustAt, beforeAt, afterAt, fieldsOf}
-use Rattle.record.specs.Rules.{outside}
+use Rattle.record.specs.Table.{colAt, formAt, widthAt, mustAt, backAt, aheadAt, domainAt, fieldsOf, mostFields, required}
+use Rattle.record.specs.Rules.{inDomain}
 use Rattle.record.specs.Breaks.{atPlace, findingOf}
 use Rattle.record.specs.Says.{Said, missing, number, text, coordinate, isMissing}
-use Rattle.record.proofs.SaysLaws.{Among, texts}
+use Rattle.record.proofs.SaysLaws.{Among, texts, domain-first}
 use Rattle.record.proofs.TableLaws.{sane, col-past}
 use Rattle.codec.specs.declared.values.Value.{Value}
 use Rattle.codec.specs.declared.values.Values.{Values}
@@ -41,13 +42,10 @@ use Rattle.codec.proofs.InFields.{heard}
 
 -- FORMS of the last arm of a `match`, by their places in the enum
 abbrev pub unsized : List ℕ
-unsized = 0 ∷ 1 ∷ 2 ∷ 3 ∷ 4 ∷ []
-
-abbrev pub undomained : List ℕ
-undomained = 0 ∷ 1 ∷ 4 ∷ 5 ∷ 6 ∷ []
+unsized = 0 ∷ 1 ∷ 2 ∷ []
 
 abbrev pub uncoded : List ℕ
-uncoded = 0 ∷ 2 ∷ 3 ∷ 4 ∷ 5 ∷ []
+uncoded = 0 ∷ 2 ∷ 3 ∷ []
 
 -- a test g that is false where nothing is said
 given-says : (g : Said → Bool) (b : Bool) (x : Said) → g missing ≡ false → (b && g x) ≡ g (pick b x missing)
@@ -79,11 +77,9 @@ not-there false x e = sym e
 as-text : (form : Form) (v : Value) → Among texts form → saidBy form v ≡ textBy v
 as-text Words v h = refl
 as-text Code v h = refl
-as-text Tipo v h = refl
-as-text Sense v h = refl
-as-text Sign v h = absurd (miss texts 4 tt h)
-as-text Number v h = absurd (miss texts 5 tt h)
-as-text Size v h = absurd (miss texts 6 tt h)
+as-text Sign v h = absurd (miss texts 2 tt h)
+as-text Number v h = absurd (miss texts 3 tt h)
+as-text Size v h = absurd (miss texts 4 tt h)
 
 -- 62
 module _ (w : ℕ) (form : Form) (v : Value) where
@@ -96,11 +92,9 @@ module _ (w : ℕ) (form : Form) (v : Value) where
 pub large-none : (w : ℕ) (form : Form) (v : Value) → Among unsized form → false ≡ tooLarge w (saidBy form v)
 large-none w Words v h = text-never (tooLarge w) v refl (λ t. refl)
 large-none w Code v h = text-never (tooLarge w) v refl (λ t. refl)
-large-none w Tipo v h = text-never (tooLarge w) v refl (λ t. refl)
-large-none w Sense v h = text-never (tooLarge w) v refl (λ t. refl)
 large-none w Sign v h = refl
-large-none w Number v h = absurd (miss unsized 5 tt h)
-large-none w Size v h = absurd (miss unsized 6 tt h)
+large-none w Number v h = absurd (miss unsized 3 tt h)
+large-none w Size v h = absurd (miss unsized 4 tt h)
 
 -- 63
 module _ (w len : ℕ) (s : List ℕ) where
@@ -146,11 +140,9 @@ text-gone v = not-there (eqb (v .len) 0) (text (firstBytes (v .len) (v .text))) 
 pub blank-text : (form : Form) (v : Value) (next : Said) → Among texts form → eqb (v .len) 0 ≡ blankAs form (saidBy form v) next
 blank-text Words v next h = text-gone v
 blank-text Code v next h = text-gone v
-blank-text Tipo v next h = text-gone v
-blank-text Sense v next h = text-gone v
-blank-text Sign v next h = absurd (miss texts 4 tt h)
-blank-text Number v next h = absurd (miss texts 5 tt h)
-blank-text Size v next h = absurd (miss texts 6 tt h)
+blank-text Sign v next h = absurd (miss texts 2 tt h)
+blank-text Number v next h = absurd (miss texts 3 tt h)
+blank-text Size v next h = absurd (miss texts 4 tt h)
 
 -- MISSING
 pub missing-code :
@@ -165,54 +157,26 @@ missing-code form v next e h = rw (e, h) (go (eqb (v .len) 0))
 pub missing-other : (form : Form) (own next : Said) → Among uncoded form → blankAs form own next ≡ missingAs form own next
 missing-other Words own next h = refl
 missing-other Code own next h = absurd (miss uncoded 1 tt h)
-missing-other Tipo own next h = refl
-missing-other Sense own next h = refl
 missing-other Sign own next h = refl
 missing-other Number own next h = refl
-missing-other Size own next h = absurd (miss uncoded 6 tt h)
+missing-other Size own next h = absurd (miss uncoded 4 tt h)
 
--- 65
-pub tipo-text : (form : Form) → form ≡ Tipo → Among texts form
-tipo-text form e = rw e (hit texts 2 tt)
+-- 65: of a text, whose domain is read of its first byte, and of nothing else
+module _ (form : Form) (d : Domain) (v : Value) where
+  pub outside-gone : Among texts form → v .len ≡ 0 → false ≡ outsideSaid d (saidBy form v)
+  outside-gone h e = rw (as-text form v h, eq-eqb (v .len) 0 e)
 
-pub sense-text : (form : Form) → form ≡ Sense → Among texts form
-sense-text form e = rw e (hit texts 3 tt)
+  pub outside-text : {t : List ℕ} {r : Bool} → Among texts form → (v .len ≡ 0 → ⊥) → t ≡ take (v .len) (v .text) → r ≡ inDomain d t → not r ≡ outsideSaid d (saidBy form v)
+  outside-text {t} h n e q =
+      let l : 0 < v .len = omega arith in
+      rw (as-text form v h, ne-eqb (v .len) 0 n, q)
+      (ap not (domain-first d t (firstBytes (v .len) (v .text)) (rw e (getD-take (v .len) (v .text) 0 0 l ∙ sym (first-at (v .len) (v .text) 0 l)))))
 
--- a text's domain is read of its first byte
-same-first : (form : Form) (t u n m : List ℕ) → Among texts form → getD t 0 0 ≡ getD u 0 0 → outside form t n ≡ outside form u m
-unfolding outside
-same-first Words t u n m h e = refl
-same-first Code t u n m h e = refl
-same-first Tipo t u n m h e = rw e
-same-first Sense t u n m h e = rw e
-same-first Sign t u n m h e = absurd (miss texts 4 tt h)
-same-first Number t u n m h e = refl
-same-first Size t u n m h e = refl
+  pub outside-number : form ≡ Number → false ≡ outsideSaid d (saidBy form v)
+  outside-number e = rw e (never-given (outsideSaid d) (v .given) (number (v .number)) refl refl)
 
-pub outside-text :
-    (form : Form) (v : Value) (n : List ℕ) {t : List ℕ} {r : Bool} → Among texts form → t ≡ take (v .len) (v .text) → r ≡ outside form t n
-    → (not (eqb (v .len) 0) && r) ≡ outsideSaid form (saidBy form v)
-outside-text form v n {t} {r} a e h = rw (as-text form v a) (go (eqb (v .len) 0) refl)
-  where
-    u : List ℕ
-    u = firstBytes (v .len) (v .text)
-
-    go : (b : Bool) → eqb (v .len) 0 ≡ b → (not b && r) ≡ outsideSaid form (pick b missing (text u))
-    go true q = refl
-    go false q =
-        let some = eqb-false (v .len) 0 q in
-        let l : 0 < v .len = omega arith in
-        h ∙ same-first form t u n [] a (rw e (getD-take (v .len) (v .text) 0 0 l ∙ sym (first-at (v .len) (v .text) 0 l)))
-
-pub outside-none : (form : Form) (v : Value) → Among undomained form → false ≡ outsideSaid form (saidBy form v)
-unfolding outside
-outside-none Words v h = text-never (outsideSaid Words) v refl (λ t. refl)
-outside-none Code v h = text-never (outsideSaid Code) v refl (λ t. refl)
-outside-none Tipo v h = absurd (miss undomained 2 tt h)
-outside-none Sense v h = absurd (miss undomained 3 tt h)
-outside-none Sign v h = refl
-outside-none Number v h = never-given (outsideSaid Number) (v .given) (number (v .number)) refl refl
-outside-none Size v h = never-given (outsideSaid Size) (v .given) (coordinate (v .coordinate)) refl refl
+  pub outside-size : form ≡ Size → false ≡ outsideSaid d (saidBy form v)
+  outside-size e = rw e (never-given (outsideSaid d) (v .given) (coordinate (v .coordinate)) refl refl)
 
 -- A FIELD of a struct of values: its own value and the next
 module _ (k : Kind) (v : Values) (f : ℕ) where
@@ -226,21 +190,21 @@ module _ (k : Kind) (v : Values) (f : ℕ) where
 
   -- the tests of a field
   pub sixties-said :
-      {form : Form} {w : ℕ} {own next : Value} {gone large bad lack unfit : Bool}
-      → form ≡ formAt k f → w ≡ widthAt k f → own ≡ valueAt v f → next ≡ valueAt v (f + 1) → gone ≡ missingAs form (saidBy form own) (saidBy Size next)
-      → large ≡ tooLarge w (saidBy form own) → bad ≡ badSaid w (saidBy form own) → lack ≡ (gone && (mustAt k f || not (partnersMissing k (valuesSay k v) f)))
-      → unfit ≡ outsideSaid form (saidBy form own) → (large ∷ bad ∷ lack ∷ unfit ∷ []) ≡ sixties k (valuesSay k v) f
+      {form : Form} {d : Domain} {w : ℕ} {own next : Value} {gone large bad lack unfit : Bool}
+      → form ≡ formAt k f → d ≡ domainAt k f → w ≡ widthAt k f → own ≡ valueAt v f → next ≡ valueAt v (f + 1) → gone ≡ missingAs form (saidBy form own) (saidBy Size next)
+      → large ≡ tooLarge w (saidBy form own) → bad ≡ badSaid w (saidBy form own) → lack ≡ (gone && (required (mustAt k f) || not (partnersMissing k (valuesSay k v) f)))
+      → unfit ≡ outsideSaid d (saidBy form own) → (large ∷ bad ∷ lack ∷ unfit ∷ []) ≡ sixties k (valuesSay k v) f
   unfolding valuesSay refuses62 refuses63 refuses64 refuses65
-  sixties-said e w o n g l b p u =
+  sixties-said e d w o n g l b p u =
       let m = heard (formAt k f) 0 (saidBy (formAt k f) (valueAt v f)) _ _ next-says .2 in
-      rw (l, b, p, u, g, e, w, o, n, m)
+      rw (l, b, p, u, g, e, d, w, o, n, m)
 
 -- PARTNERS of a field stand near it
-pub partners-near : (k : Kind) (f : ℕ) → (beforeAt k f ≤ f) × (afterAt k f ≤ 14)
-unfolding beforeAt afterAt
+pub partners-near : (k : Kind) (f : ℕ) → (backAt k f ≤ f) × (aheadAt k f ≤ mostFields)
+unfolding backAt aheadAt
 partners-near k f = go (decLe f (fieldsOf k))
   where
-    go : Dec (f ≤ fieldsOf k) → (colAt k f .before ≤ f) × (colAt k f .after ≤ 14)
+    go : Dec (f ≤ fieldsOf k) → (colAt k f .back ≤ f) × (colAt k f .ahead ≤ mostFields)
     go (yes l) = let p = partners-within k f l in (p .0, omega (arith, sane k, p .1))
     go (no m) = rw (col-past k f (omega arith)) (omega arith, omega arith)
 

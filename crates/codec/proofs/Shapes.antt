@@ -5,7 +5,7 @@ use mathlib.Core.Bool.{Bool, true, false}
 use lib.Dec.{ltb}
 use lib.ListN.{length}
 use Rattle.record.specs.declared.kind.Form.{Form}
-use Rattle.record.specs.declared.kind.Form.the-variants.{Words, Code, Tipo, Sense, Sign, Number, Size}
+use Rattle.record.specs.declared.kind.Form.the-variants.{Words, Code, Sign, Number, Size}
 use Rattle.record.specs.Says.{Said, missing, number, text, coordinate}
 
 -- nothing, or a text of some bytes
@@ -36,8 +36,6 @@ isPlaced (coordinate z) = true
 unfoldable pub shaped : Form → Said → Bool
 shaped Words s = isTextual s
 shaped Code s = isTextual s
-shaped Tipo s = isTextual s
-shaped Sense s = isTextual s
 shaped Sign s = isNothing s
 shaped Number s = isNumeric s
 shaped Size s = isPlaced s

@@ -23,7 +23,7 @@ use Rattle.field.specs.Texts.{padded, firstBytes}
 use Rattle.field.proofs.TextLaws.{padded-empty, first-bytes-le}
 use Rattle.record.specs.declared.kind.Kind.{Kind}
 use Rattle.record.specs.declared.kind.Form.{Form}
-use Rattle.record.specs.declared.kind.Form.the-variants.{Words, Code, Tipo, Sense, Sign, Number, Size}
+use Rattle.record.specs.declared.kind.Form.the-variants.{Words, Code, Sign, Number, Size}
 use Rattle.record.specs.declared.kind.Which.{Which}
 use Rattle.record.specs.declared.kind.Which.the-variants.{NoFile, File}
 use Rattle.record.specs.declared.reason.Reason.the-variants.{NoFile60, ShortRoom61}
@@ -89,11 +89,9 @@ pub text-put : (form : Form) (w : ℕ) (v : Value) (next : Said) → Among texts
 unfolding bytesAs
 text-put Words w v next h = picked-text w v
 text-put Code w v next h = picked-text w v
-text-put Tipo w v next h = picked-text w v
-text-put Sense w v next h = picked-text w v
-text-put Sign w v next h = absurd (miss texts 4 tt h)
-text-put Number w v next h = absurd (miss texts 5 tt h)
-text-put Size w v next h = absurd (miss texts 6 tt h)
+text-put Sign w v next h = absurd (miss texts 2 tt h)
+text-put Number w v next h = absurd (miss texts 3 tt h)
+text-put Size w v next h = absurd (miss texts 4 tt h)
 
 -- a field of a record: the next field's value is one of a coordinate where it is looked at
 field-put : (k : Kind) (v : Values) (f : ℕ)

@@ -15,7 +15,7 @@ use Rattle.record.specs.declared.reason.Reason.{Reason}
 use Rattle.record.specs.declared.reason.Reason.the-variants.{NoFile60, ShortRoom61, NoSuchRecord66}
 use Rattle.record.specs.declared.reason.Finding.{Finding}
 use Rattle.record.specs.declared.reason.Finding.the-variants.{Fine, Broken}
-use Rattle.record.specs.Table.{lengthOf, whichOf}
+use Rattle.record.specs.Table.{lengthOf, whichOf, mostFields}
 use Rattle.record.specs.Cut.{countOf, recordOf}
 use Rattle.record.specs.Breaks.{recordFinding}
 use Rattle.codec.specs.declared.values.Values.{Values}
@@ -33,7 +33,7 @@ answerOf (Broken b) = Refused (b .reason) (b .field)
 
 -- a refusal gives no values
 abbrev pub noReading : Reason → ℕ → Reading
-noReading reason field = record { answer = Refused reason field; values = record { at = replicate 14 noValue } }
+noReading reason field = record { answer = Refused reason field; values = record { at = replicate mostFields noValue } }
 
 -- of a record's bytes with what is found in them
 abbrev pub readFound : List ℕ → Kind → Finding → Reading

@@ -14,13 +14,14 @@ use Rattle.field.specs.Bytes.{allOf}
 use Rattle.field.specs.Texts.{notGiven}
 use Rattle.record.specs.declared.kind.Kind.{Kind}
 use Rattle.record.specs.declared.kind.Form.{Form}
-use Rattle.record.specs.declared.kind.Form.the-variants.{Words, Code, Tipo, Sense, Sign, Number, Size}
+use Rattle.record.specs.declared.kind.Form.the-variants.{Words, Code, Sign, Number, Size}
+use Rattle.record.specs.declared.kind.Domain.{Domain}
 use Rattle.record.specs.declared.reason.Reason.{Reason}
 use Rattle.record.specs.declared.reason.Reason.the-variants.{TooLarge62, BadText63, Missing64, Outside65}
 use Rattle.record.specs.declared.reason.Break.{Break}
 use Rattle.record.specs.declared.reason.Finding.{Finding}
-use Rattle.record.specs.Table.{formAt, widthAt, mustAt, beforeAt, afterAt, fieldsOf}
-use Rattle.record.specs.Rules.{outside}
+use Rattle.record.specs.Table.{formAt, widthAt, mustAt, backAt, aheadAt, domainAt, fieldsOf, required}
+use Rattle.record.specs.Rules.{inDomain}
 use Rattle.record.specs.Breaks.{atPlace, findingOf}
 use Rattle.record.specs.Says.{Said, missing, number, text, coordinate, isMissing}
 
@@ -62,8 +63,6 @@ saysNotGiven (coordinate z) = false
 abbrev pub blankAs : Form → Said → Said → Bool
 blankAs Words own next = isMissing own
 blankAs Code own next = isMissing own
-blankAs Tipo own next = isMissing own
-blankAs Sense own next = isMissing own
 blankAs Sign own next = isMissing next
 blankAs Number own next = isMissing own
 blankAs Size own next = isMissing own
@@ -75,29 +74,27 @@ blankAt k v f = blankAs (formAt k f) (v f) (v (f + 1))
 abbrev pub missingAs : Form → Said → Said → Bool
 missingAs Words own next = isMissing own
 missingAs Code own next = isMissing own || saysNotGiven own
-missingAs Tipo own next = isMissing own
-missingAs Sense own next = isMissing own
 missingAs Sign own next = isMissing next
 missingAs Number own next = isMissing own
 missingAs Size own next = false
 
 -- the field and its partners are all written blank
 unfoldable pub partnersMissing : Kind → (ℕ → Said) → ℕ → Bool
-partnersMissing k v f = each (λ b. b) (row (λ j. blankAt k v (f - beforeAt k f + j)) (beforeAt k f + afterAt k f + 1))
+partnersMissing k v f = each (λ b. b) (row (λ j. blankAt k v (f - backAt k f + j)) (backAt k f + aheadAt k f + 1))
 
 -- 64: missing where it may not be, by the partner rule too
 unfoldable pub refuses64 : Kind → (ℕ → Said) → ℕ → Bool
-refuses64 k v f = missingAs (formAt k f) (v f) (v (f + 1)) && (mustAt k f || not (partnersMissing k v f))
+refuses64 k v f = missingAs (formAt k f) (v f) (v (f + 1)) && (required (mustAt k f) || not (partnersMissing k v f))
 
-abbrev pub outsideSaid : Form → Said → Bool
-outsideSaid form missing = false
-outsideSaid form (number n) = false
-outsideSaid form (text t) = outside form t []
-outsideSaid form (coordinate z) = false
+abbrev pub outsideSaid : Domain → Said → Bool
+outsideSaid domain missing = false
+outsideSaid domain (number n) = false
+outsideSaid domain (text t) = not (inDomain domain t)
+outsideSaid domain (coordinate z) = false
 
 -- 65: outside its domain
 unfoldable pub refuses65 : Kind → (ℕ → Said) → ℕ → Bool
-refuses65 k v f = outsideSaid (formAt k f) (v f)
+refuses65 k v f = outsideSaid (domainAt k f) (v f)
 
 -- the tests of a field, in their order
 abbrev pub sixties : Kind → (ℕ → Said) → ℕ → List Bool

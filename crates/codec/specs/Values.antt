@@ -12,15 +12,15 @@ use Rattle.field.specs.Bytes.{blanks}
 use Rattle.field.specs.Texts.{padded, firstBytes}
 use Rattle.record.specs.declared.kind.Kind.{Kind}
 use Rattle.record.specs.declared.kind.Form.{Form}
-use Rattle.record.specs.declared.kind.Form.the-variants.{Words, Code, Tipo, Sense, Sign, Number, Size}
-use Rattle.record.specs.Table.{formAt}
+use Rattle.record.specs.declared.kind.Form.the-variants.{Words, Code, Sign, Number, Size}
+use Rattle.record.specs.Table.{formAt, widest, mostFields}
 use Rattle.record.specs.Says.{Said, missing, number, text, coordinate, saidIn}
 use Rattle.codec.specs.declared.values.Value.{Value}
 use Rattle.codec.specs.declared.values.Values.{Values}
 
 -- nothing is said
 abbrev pub noValue : Value
-noValue = record { given = false; number = 0; coordinate = pos 0; len = 0; text = blanks 60 }
+noValue = record { given = false; number = 0; coordinate = pos 0; len = 0; text = blanks widest }
 
 -- a text: the first len bytes of the struct's sixty; those past the sixtieth count as 0, and no bytes are no text. `given` is read of
 -- numbers and coordinates only
@@ -31,8 +31,6 @@ textBy v = pick (eqb (v .len) 0) missing (text (firstBytes (v .len) (v .text)))
 abbrev pub saidBy : Form → Value → Said
 saidBy Words v = textBy v
 saidBy Code v = textBy v
-saidBy Tipo v = textBy v
-saidBy Sense v = textBy v
 saidBy Sign v = missing
 saidBy Number v = pick (v .given) (number (v .number)) missing
 saidBy Size v = pick (v .given) (coordinate (v .coordinate)) missing
@@ -47,15 +45,15 @@ valuesSay k v f = saidBy (formAt k f) (valueAt v f)
 
 -- a text, as a value
 unfoldable pub textValue : List ℕ → Value
-textValue t = record { given = not (eqb (length t) 0); number = 0; coordinate = pos 0; len = length t; text = padded 60 t }
+textValue t = record { given = not (eqb (length t) 0); number = 0; coordinate = pos 0; len = length t; text = padded widest t }
 
 -- what is said, as a value
 unfoldable pub valueOf : Said → Value
 valueOf missing = noValue
-valueOf (number n) = record { given = true; number = n; coordinate = pos 0; len = 0; text = blanks 60 }
+valueOf (number n) = record { given = true; number = n; coordinate = pos 0; len = 0; text = blanks widest }
 valueOf (text t) = textValue t
-valueOf (coordinate z) = record { given = true; number = 0; coordinate = z; len = 0; text = blanks 60 }
+valueOf (coordinate z) = record { given = true; number = 0; coordinate = z; len = 0; text = blanks widest }
 
 -- the values of a record's bytes
 unfoldable pub valuesIn : List ℕ → Kind → Values
-valuesIn s k = record { at = row (λ i. valueOf (saidIn s k (i + 1))) 14 }
+valuesIn s k = record { at = row (λ i. valueOf (saidIn s k (i + 1))) mostFields }

@@ -10,7 +10,7 @@ use Rattle.field.specs.Signs.{signByte}
 use Rattle.field.specs.Texts.{padded}
 use Rattle.record.specs.declared.kind.Kind.{Kind}
 use Rattle.record.specs.declared.kind.Form.{Form}
-use Rattle.record.specs.declared.kind.Form.the-variants.{Words, Code, Tipo, Sense, Sign, Number, Size}
+use Rattle.record.specs.declared.kind.Form.the-variants.{Words, Code, Sign, Number, Size}
 use Rattle.record.specs.Table.{formAt, widthAt, fieldsOf}
 use Rattle.record.specs.Says.{Said, missing, number, text, coordinate}
 
@@ -37,8 +37,6 @@ textBytes w (coordinate z) = blanks w
 unfoldable pub bytesAs : Form → ℕ → Said → Said → List ℕ
 bytesAs Words w own next = textBytes w own
 bytesAs Code w own next = textBytes w own
-bytesAs Tipo w own next = textBytes w own
-bytesAs Sense w own next = textBytes w own
 bytesAs Sign w own next = signBytes w next
 bytesAs Number w own next = numberBytes w own
 bytesAs Size w own next = numberBytes w own

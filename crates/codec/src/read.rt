@@ -18,6 +18,7 @@ use record::cut::record_bytes;
 use record::cut::records;
 use record::kind::Form;
 use record::kind::Kind;
+use record::kind::MOST_FIELDS;
 use record::kind::Which;
 use record::kind::kind_of;
 use record::reason::Finding;
@@ -26,6 +27,7 @@ ghost use mathlib.Core.Path.{_≡_};
 ghost use mathlib.Core.List.{List};
 ghost use Prim.Native.Nat.{ℕ, _+_, _<_, _≤_};
 ghost use Rattle.laws.specs.Row.{row};
+ghost use Rattle.record.specs.Table.{mostFields};
 ghost use Rattle.record.specs.Says.{saidAs, saidIn};
 ghost use Rattle.codec.specs.Values.{valueOf, valuesIn};
 ghost use Rattle.codec.specs.Calls.{noReading, readFound, readIn, readOf};
@@ -54,7 +56,7 @@ fn value_as(form: Form, t: &[u8], b: &[u8]) -> Value
 
 // The value of field i + 1 of a record's bytes.
 fn value_in(rec: &[u8], k: Kind, i: usize) -> Value
-    requires { ⌜ i < 14 ⌝ }
+    requires { ⌜ i < mostFields ⌝ }
     ensures { λ r. ⌜ r ≡ valueOf (saidIn (now (rec .entry)) k (i + 1)) ⌝ }
 {
     let f = i + 1;
@@ -65,9 +67,9 @@ fn value_in(rec: &[u8], k: Kind, i: usize) -> Value
 fn values_in(rec: &[u8], k: Kind) -> Values
     ensures { λ r. ⌜ r ≡ valuesIn (now (rec .entry)) k ⌝ }
 {
-    let mut at = [missing_value(); 14];
+    let mut at = [missing_value(); MOST_FIELDS];
     let mut i = 0;
-    while i < 14 {
+    while i < MOST_FIELDS {
         at[i] = value_in(rec, k, i);
         i += 1;
     }
@@ -79,7 +81,7 @@ fn no_reading(reason: Reason, field: usize) -> Reading
 {
     let answer = Answer::Refused(reason, field);
     let values = Values {
-        at: [missing_value(); 14],
+        at: [missing_value(); MOST_FIELDS],
     };
     Reading { answer, values }
 }

@@ -9,6 +9,7 @@ use field::words::not_given;
 use record::check::break_of;
 use record::check::first_true;
 use record::cut::part;
+use record::kind::Domain;
 use record::kind::Form;
 use record::kind::Kind;
 use record::reason::Finding;
@@ -20,7 +21,7 @@ ghost use Prim.Native.Nat.{ℕ, _+_, _-_, _<_, _≤_};
 ghost use lib.ListN.{length, getD};
 ghost use Rattle.laws.specs.Nest.{run};
 ghost use Rattle.field.specs.Texts.{firstBytes};
-ghost use Rattle.record.specs.Table.{mustAt};
+ghost use Rattle.record.specs.Table.{required, mustAt, widest};
 ghost use Rattle.record.specs.Breaks.{findingOf, atPlace};
 ghost use Rattle.codec.specs.Values.{saidBy, valuesSay};
 ghost use Rattle.codec.specs.Refusals.{tooLarge, badText, badSaid, blankAs, blankAt, missingAs, partnersMissing, outsideSaid, sixties, sixtyReasons, valuesFinding};
@@ -51,7 +52,7 @@ fn bad_text(w: usize, text: &[u8], len: usize) -> bool
 
 // 63: a bad text.
 fn bad_value(form: Form, w: usize, v: Value) -> bool
-    requires { ⌜ w ≤ 60 ⌝ }
+    requires { ⌜ w ≤ widest ⌝ }
     ensures { λ r. ⌜ r ≡ badSaid w (saidBy form v) ⌝ }
 {
     let len = v.len;
@@ -113,8 +114,8 @@ fn partners_missing(k: Kind, v: Values, f: usize) -> bool
     requires { ⌜ f < 256 - 100 ⌝ }
     ensures { λ r. ⌜ r ≡ partnersMissing k (valuesSay k v) f ⌝ }
 {
-    let from = minus(f, k.before(f));
-    let n = k.before(f) + k.after(f) + 1;
+    let from = minus(f, k.back(f));
+    let n = k.back(f) + k.ahead(f) + 1;
     let mut j = 0;
     while j < n {
         if blank_at(k, v, from + j) {
@@ -129,7 +130,7 @@ fn partners_missing(k: Kind, v: Values, f: usize) -> bool
 // 64: gone where it may not be, or while a partner isn't.
 fn lacking(k: Kind, v: Values, f: usize, gone: bool) -> bool
     requires { ⌜ f < 256 - 100 ⌝ }
-    ensures { λ r. ⌜ r ≡ (gone && (mustAt k f || not (partnersMissing k (valuesSay k v) f))) ⌝ }
+    ensures { λ r. ⌜ r ≡ (gone && (required (mustAt k f) || not (partnersMissing k (valuesSay k v) f))) ⌝ }
 {
     if gone {
         k.must(f) | !partners_missing(k, v, f)
@@ -138,16 +139,22 @@ fn lacking(k: Kind, v: Values, f: usize, gone: bool) -> bool
     }
 }
 
-// 65: outside its domain.
-fn unfit(form: Form, v: Value) -> bool
-    ensures { λ r. ⌜ r ≡ outsideSaid form (saidBy form v) ⌝ }
+// 65: outside its domain. Only a text is asked.
+fn unfit(form: Form, domain: Domain, v: Value) -> bool
+    ensures { λ r. ⌜ r ≡ outsideSaid domain (saidBy form v) ⌝ }
 {
     let len = v.len;
     let text = v.text;
     match form {
-        Form::Tipo => (len != 0) & form.outside(part(&text, 0, len), part(&text, 0, 0)),
-        Form::Sense => (len != 0) & form.outside(part(&text, 0, len), part(&text, 0, 0)),
-        _ => false,
+        Form::Sign => false,
+        Form::Number => false,
+        Form::Size => false,
+        _ => {
+            if len == 0 {
+                return false;
+            }
+            !domain.has(part(&text, 0, len))
+        }
     }
 }
 
@@ -164,7 +171,7 @@ fn tests(k: Kind, v: Values, f: usize) -> [bool; 4]
         too_large(form, w, own),
         bad_value(form, w, own),
         lacking(k, v, f, gone),
-        unfit(form, own),
+        unfit(form, k.domain(f), own),
     ]
 }
 

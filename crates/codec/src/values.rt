@@ -1,5 +1,7 @@
 // Values of one record: one struct for all files, by field.
 use field::words::put_text;
+use record::kind::MOST_FIELDS;
+use record::kind::WIDEST;
 use record::reason::Reason;
 ghost use mathlib.Core.Path.{_≡_};
 ghost use mathlib.Core.List.{List};
@@ -15,12 +17,12 @@ pub struct Value {
     pub number: u64,
     pub coordinate: i64,
     pub len: usize,
-    pub text: [u8; 60],
+    pub text: [u8; WIDEST],
 }
 
 // One record's values: that of field f, counted from 1, is at[f - 1]. Those of signs and past the kind's last field are not looked at.
 pub struct Values {
-    pub at: [Value; 14],
+    pub at: [Value; MOST_FIELDS],
 }
 
 // The answer of a call on one record.
@@ -44,7 +46,7 @@ pub fn missing_value() -> Value
         number: 0,
         coordinate: 0,
         len: 0,
-        text: [32u8; 60],
+        text: [32u8; WIDEST],
     }
 }
 
@@ -56,7 +58,7 @@ pub fn number_value(n: u64) -> Value
         number: n,
         coordinate: 0,
         len: 0,
-        text: [32u8; 60],
+        text: [32u8; WIDEST],
     }
 }
 
@@ -68,7 +70,7 @@ pub fn coordinate_value(z: i64) -> Value
         number: 0,
         coordinate: z,
         len: 0,
-        text: [32u8; 60],
+        text: [32u8; WIDEST],
     }
 }
 
@@ -76,7 +78,7 @@ pub fn coordinate_value(z: i64) -> Value
 pub fn text_value(t: &[u8]) -> Value
     ensures { λ r. ⌜ r ≡ textValue (now (t .entry)) ⌝ }
 {
-    let mut text = [32u8; 60];
+    let mut text = [32u8; WIDEST];
     let len = t.len();
     put_text(&mut text, t, len);
     Value {
@@ -96,7 +98,7 @@ impl Values {
         if f < 1 {
             return missing_value();
         }
-        if 14 < f {
+        if MOST_FIELDS < f {
             return missing_value();
         }
         let i = f - 1;

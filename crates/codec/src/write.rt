@@ -9,6 +9,7 @@ use field::number::sign_byte;
 use field::words::put_text;
 use record::kind::Form;
 use record::kind::Kind;
+use record::kind::LONGEST;
 use record::kind::Which;
 use record::kind::kind_of;
 use record::reason::Finding;
@@ -117,7 +118,7 @@ fn write_in(k: Kind, v: Values, room: &mut [u8]) -> Answer
             Answer::Refused(reason, b.field)
         }
         Finding::Fine => {
-            let mut aside = [0u8; 149];
+            let mut aside = [0u8; LONGEST];
             put_record(&mut aside[..n], k, v);
             put_text(&mut room[..n], &aside, n);
             Answer::Done

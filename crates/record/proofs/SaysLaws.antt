@@ -24,9 +24,11 @@ use Rattle.field.proofs.TextLoops.{length-trimmed}
 use Rattle.record.specs.declared.kind.Kind.{Kind}
 use Rattle.record.specs.declared.kind.Form.{Form}
 use Rattle.record.specs.declared.kind.Form.the-variants.{Words, Code, Sign, Number, Size}
+use Rattle.record.specs.declared.kind.Domain.{Domain}
+use Rattle.record.specs.declared.kind.Domain.the-variants.{Any, ObjectType, PlusMinus}
 use Rattle.record.specs.Table.{backAt, aheadAt, isN, isSign}
 use Rattle.record.specs.Cut.{textOf}
-use Rattle.record.specs.Rules.{partnersBlank}
+use Rattle.record.specs.Rules.{partnersBlank, inDomain}
 use Rattle.record.specs.Says.{Said, missing, number, text, coordinate, saidAs, isMissing, numberIn, keyIn, letterIn, placeOf, placeIn, textSaid}
 use Rattle.record.proofs.kind.Form.{the-type}
 
@@ -305,6 +307,13 @@ key-same p q t b u c n hp hq bt bu =
 pub not-given-trimmed : (t : List ℕ) {len : ℕ} → len ≡ length (trimmed t) → notGiven (firstBytes len t) ≡ notGiven (trimmed t)
 unfolding trimmed
 not-given-trimmed t e = rw (e, first-bytes-le _ t (trimmed-le t), length-trimmed)
+
+-- THE DOMAIN is read of the first byte
+pub domain-first : (d : Domain) (t u : List ℕ) → getD t 0 0 ≡ getD u 0 0 → inDomain d t ≡ inDomain d u
+unfolding inDomain
+domain-first Any t u e = refl
+domain-first ObjectType t u e = rw e
+domain-first PlusMinus t u e = rw e
 
 -- no form but the sign's is a sign's
 pub no-sign : (form : Form) → Among noSign form → isSign form ≡ false

@@ -10,11 +10,16 @@ use lib.Dec.{leb, eqb}
 use lib.ListN.{length, getD, List·getD-eq-default}
 use borrow.Author.Tests.{leb-true, eqb-true}
 use Rattle.laws.specs.Row.{pick, row, each}
+use Rattle.laws.proofs.FindLaws.{true-false}
 use Rattle.laws.proofs.RowLaws.{and-true, length-row, row-at, each-at}
 use Rattle.record.specs.declared.kind.Kind.{Kind}
 use Rattle.record.specs.declared.kind.Kind.the-variants.{Catalogo, ObPun, ObTex, ObLin, Tramo, Vertice, Nodo}
+use Rattle.record.specs.declared.kind.Form.{Form}
+use Rattle.record.specs.declared.kind.Form.the-variants.{Words, Code, Sign, Number, Size}
+use Rattle.record.specs.declared.kind.Domain.{Domain}
+use Rattle.record.specs.declared.kind.Domain.the-variants.{Any, ObjectType, PlusMinus}
 use Rattle.record.specs.declared.kind.Which.the-variants.{NoFile, File}
-use Rattle.record.specs.Table.{Col, whole, cols, roomIn, roomOf, offsetIn, lengthIn, colAt, formAt, widthAt, offsetAt, kinds, longest, mostFields, widest, fieldsOf, lengthOf, fileOf, whichOf, isN}
+use Rattle.record.specs.Table.{Col, whole, cols, roomIn, roomOf, offsetIn, lengthIn, colAt, formAt, widthAt, domainAt, offsetAt, kinds, longest, mostFields, widest, fieldsOf, lengthOf, fileOf, whichOf, isN}
 
 -- A TABLE: a test of every element holds at every index, where it holds of the default
 pub each-getD : {A : Type 0} (p : A → Bool) (xs : List A) (d : A) → p d ≡ true → each p xs ≡ true → (i : ℕ) → p (getD xs i d) ≡ true
@@ -95,6 +100,53 @@ unfolding widthAt formAt colAt each fit
 widths k f =
     let e = and-true _ _ (each-getD fit (cols k) whole refl (every (λ j. each fit (cols j)) refl k) f) in
     (leb-true _ _ (e .0), λ n. leb-true _ _ (rw n at (e .1)))
+
+-- which domains the forms have: only words have one of their own
+abbrev isAny : Domain → Bool
+isAny Any = true
+isAny ObjectType = false
+isAny PlusMinus = false
+
+any-is : (d : Domain) → isAny d ≡ true → d ≡ Any
+any-is Any e = refl
+any-is ObjectType e = absurd (true-false (sym e))
+any-is PlusMinus e = absurd (true-false (sym e))
+
+abbrev isPlusMinus : Domain → Bool
+isPlusMinus Any = false
+isPlusMinus ObjectType = false
+isPlusMinus PlusMinus = true
+
+plus-minus-is : (d : Domain) → isPlusMinus d ≡ true → d ≡ PlusMinus
+plus-minus-is Any e = absurd (true-false (sym e))
+plus-minus-is ObjectType e = absurd (true-false (sym e))
+plus-minus-is PlusMinus e = refl
+
+abbrev domainFits : Form → Domain → Bool
+domainFits Words d = true
+domainFits Code d = isAny d
+domainFits Sign d = isPlusMinus d
+domainFits Number d = isAny d
+domainFits Size d = isAny d
+
+abbrev pub DomainFits : Form → Domain → Type 0
+DomainFits Words d = Unit {0}
+DomainFits Code d = d ≡ Any
+DomainFits Sign d = d ≡ PlusMinus
+DomainFits Number d = d ≡ Any
+DomainFits Size d = d ≡ Any
+
+fits-domain : (form : Form) (d : Domain) → domainFits form d ≡ true → DomainFits form d
+fits-domain Words d e = tt
+fits-domain Code d e = any-is d e
+fits-domain Sign d e = plus-minus-is d e
+fits-domain Number d e = any-is d e
+fits-domain Size d e = any-is d e
+
+pub domain-fits : (k : Kind) (f : ℕ) → DomainFits (formAt k f) (domainAt k f)
+unfolding formAt domainAt colAt each
+domain-fits k f =
+    fits-domain (formAt k f) (domainAt k f) (each-getD (λ c. domainFits (c .form) (c .domain)) (cols k) whole refl (every (λ j. each (λ c. domainFits (c .form) (c .domain)) (cols j)) refl k) f)
 
 -- OFFSETS of any list of columns: of the next, of one past the end, and that a field and a byte after it stand in the record
 width-room : (w : ℕ) → w ≤ roomIn w

@@ -16,17 +16,17 @@ Inv-loop k v f from n j₀ j = Left (λ b. b) (blankAt k (valuesSay k v)) (partn
 abbrev μ-loop : tie.MeasureT-loop
 μ-loop k v f from n j₀ j = n - j
 
-before-requires : tie.Need-before-requires Inv-loop μ-loop
-before-requires c κs = search needs
+back-requires : tie.Need-back-requires Inv-loop μ-loop
+back-requires c κs = search needs
 
 minus-requires : tie.Need-minus-requires Inv-loop μ-loop
 minus-requires c κs = search needs
 
-before-requires-2 : tie.Need-before-requires-2 Inv-loop μ-loop
-before-requires-2 c κs = search needs
+back-requires-2 : tie.Need-back-requires-2 Inv-loop μ-loop
+back-requires-2 c κs = search needs
 
-after-requires : tie.Need-after-requires Inv-loop μ-loop
-after-requires c κs = search needs
+ahead-requires : tie.Need-ahead-requires Inv-loop μ-loop
+ahead-requires c κs = search needs
 
 add-n : tie.Need-add-n Inv-loop μ-loop
 add-n c = omega arith
@@ -67,10 +67,10 @@ partners-missing-spec =
     (tie.spec
     Inv-loop
     μ-loop
-    before-requires
+    back-requires
     minus-requires
-    before-requires-2
-    after-requires
+    back-requires-2
+    ahead-requires
     add-n
     add-n-2
     loop-holds

@@ -37,16 +37,19 @@ bad-value-requires c κs =
 lacking-requires : tie.Need-lacking-requires
 lacking-requires c κs = search needs
 
+domain-requires : tie.Need-domain-requires
+domain-requires c κs = search needs
+
 unfit-requires : tie.Need-unfit-requires
 unfit-requires c κs = search needs
 
 returns : tie.Need-returns
 returns c =
-    let m = c .before .before .before .before in
+    let m = c .before .before .before .before .before in
     let w = m .before .before .before in
     let a = w .before .before .args in
-    sixties-said (a .k) (a .v) (a .f) (w .before .form .ensures) (w .width .ensures .0) (m .before .before .get .ensures) (m .before .get2 .ensures)
-    (m .missing-as .ensures) (c .before .before .before .too-large .ensures) (c .before .before .bad-value .ensures) (c .before .lacking .ensures) (c .unfit .ensures)
+    sixties-said (a .k) (a .v) (a .f) (w .before .form .ensures) (c .before .domain .ensures) (w .width .ensures .0) (m .before .before .get .ensures) (m .before .get2 .ensures)
+    (m .missing-as .ensures) (c .before .before .before .before .too-large .ensures) (c .before .before .before .bad-value .ensures) (c .before .before .lacking .ensures) (c .unfit .ensures)
 
 pub tests-spec : {M : Type 1} → statement M
 tests-spec =
@@ -61,5 +64,6 @@ tests-spec =
     too-large-requires
     bad-value-requires
     lacking-requires
+    domain-requires
     unfit-requires
     returns)
