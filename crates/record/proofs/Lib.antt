@@ -2,6 +2,8 @@ pub mod TableLaws
 pub mod PackedLaws
 pub mod CutLaws
 pub mod SaysLaws
+pub mod NameLaws
+pub mod ColumnLaws
 pub mod FindingLaws
 pub mod GlanceLaws
 pub mod Meaning

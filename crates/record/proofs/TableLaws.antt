@@ -8,7 +8,7 @@ use native.Mathlib.Nat.{le-of-suc-le-suc, not-suc-le-zero}
 use native.Mathlib.Omega.{arith}
 use lib.Dec.{leb, eqb}
 use lib.ListN.{length, getD, List·getD-eq-default}
-use borrow.Author.Tests.{leb-true, eqb-true}
+use borrow.Author.Tests.{leb-true, eq-eqb, not-true}
 use Rattle.laws.specs.Row.{pick, row, each}
 use Rattle.laws.proofs.FindLaws.{true-false}
 use Rattle.laws.proofs.RowLaws.{and-true, length-row, row-at, each-at}
@@ -19,7 +19,7 @@ use Rattle.record.specs.declared.kind.Form.the-variants.{Words, Code, Si
 use Rattle.record.specs.declared.kind.Domain.{Domain}
 use Rattle.record.specs.declared.kind.Domain.the-variants.{Any, ObjectType, PlusMinus}
 use Rattle.record.specs.declared.kind.Which.the-variants.{NoFile, File}
-use Rattle.record.specs.Table.{Col, whole, cols, roomIn, roomOf, offsetIn, lengthIn, colAt, formAt, widthAt, domainAt, offsetAt, kinds, longest, mostFields, widest, fieldsOf, lengthOf, fileOf, whichOf, isN}
+use Rattle.record.specs.Table.{Col, whole, cols, roomIn, roomOf, offsetIn, lengthIn, colAt, formAt, widthAt, domainAt, ownAt, offsetAt, keysOf, kinds, longest, mostFields, widest, fieldsOf, lengthOf, fileOf, whichOf, isN}
 
 -- A TABLE: a test of every element holds at every index, where it holds of the default
 pub each-getD : {A : Type 0} (p : A → Bool) (xs : List A) (d : A) → p d ≡ true → each p xs ≡ true → (i : ℕ) → p (getD xs i d) ≡ true
@@ -147,6 +147,16 @@ pub domain-fits : (k : Kind) (f : ℕ) → DomainFits (formAt k f) (domainAt k f
 unfolding formAt domainAt colAt each
 domain-fits k f =
     fits-domain (formAt k f) (domainAt k f) (each-getD (λ c. domainFits (c .form) (c .domain)) (cols k) whole refl (every (λ j. each (λ c. domainFits (c .form) (c .domain)) (cols j)) refl k) f)
+
+-- where the key is two fields, the first is a number, and no id stands for it
+pairFits : Kind → Bool
+pairFits k = not (eqb (keysOf k) 2) || (isN (formAt k 1) && not (ownAt k 1))
+
+pub pair-key : (k : Kind) → keysOf k ≡ 2 → (isN (formAt k 1) ≡ true) × (ownAt k 1 ≡ false)
+unfolding pairFits formAt ownAt colAt each
+pair-key k e =
+    let p = and-true _ _ (rw (eq-eqb (keysOf k) 2 e) at (every pairFits refl k)) in
+    (p .0, not-true _ (p .1))
 
 -- OFFSETS of any list of columns: of the next, of one past the end, and that a field and a byte after it stand in the record
 width-room : (w : ℕ) → w ≤ roomIn w

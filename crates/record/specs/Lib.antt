@@ -5,3 +5,4 @@ pub mod Breaks
 pub mod Claims
 pub mod machinery
 pub mod Says
+pub mod Names

@@ -3,8 +3,10 @@
 pub mod check;
 pub mod columns;
 pub mod cut;
+pub mod fill;
 mod glance;
 pub mod kind;
+pub mod names;
 pub mod reason;
 mod rules;
 mod table;

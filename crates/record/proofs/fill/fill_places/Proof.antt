@@ -1,20 +1,20 @@
--- `fill_vertex_keys` meets its contract: the loop has read the keys of the records before i, and stands at record i.
+-- `fill_places` meets its contract: the loop has read the places of the records before i, and stands at record i.
 -- Assumes nothing.
 use Prim.Native.Nat.{_-_}
+use mathlib.Core.Path.{ap, _∙_}
 use native.Mathlib.Omega.{arith}
 use borrow.Author.Needs.{needs}
-use Rattle.record.specs.Says.{tableOf}
-use Rattle.keys.specs.Delivery.{keyOf}
-use Rattle.keys.proofs.NameLaws.{line-form, key-vertex}
-use Rattle.keys.proofs.ColumnLaws.{Filling, filling-none, filling-more, filling-all, read-none, Starts, starts-first, starts-next, cut-field, key-cut, number-cut}
-use Rattle.keys.proofs.column.fill_vertex_keys.Statement.{statement}
-use Rattle.keys.proofs.column.fill_vertex_keys.Tie as tie
+use Rattle.record.specs.Table.{offsetAt, widthAt}
+use Rattle.record.specs.Says.{tableOf, placeIn}
+use Rattle.record.proofs.ColumnLaws.{Filling, filling-none, filling-more, filling-all, read-none, Starts, starts-first, starts-next, cut-field, place-cut}
+use Rattle.record.proofs.fill.fill_places.Statement.{statement}
+use Rattle.record.proofs.fill.fill_places.Tie as tie
 
 abbrev Inv-loop : tie.InvT-loop
-Inv-loop s out₀ k n form offset width order-form order-offset order-width at₀ i₀ out at i = Filling (λ j. keyOf k (tableOf s k) j) n out₀ out i × Starts k i at
+Inv-loop s k f out₀ n g form offset width sign sign-width at₀ i₀ out at i = Filling (λ j. placeIn (tableOf s k .says j f)) n out₀ out i × Starts k i at
 
 abbrev μ-loop : tie.MeasureT-loop
-μ-loop s out₀ k n form offset width order-form order-offset order-width at₀ i₀ out at i = n - i
+μ-loop s k f out₀ n g form offset width sign sign-width at₀ i₀ out at i = n - i
 
 rows-requires : tie.Need-rows-requires Inv-loop μ-loop
 rows-requires c κs = search needs
@@ -24,6 +24,9 @@ returns c =
     let d = c .before in
     read-none _ _ (omega (arith, d .rows .ensures .0, d .rows .ensures .1)) (c .if1 .taken) (d .rows .ensures .0)
 
+sign-field-requires : tie.Need-sign-field-requires Inv-loop μ-loop
+sign-field-requires c κs = search needs
+
 form-requires : tie.Need-form-requires Inv-loop μ-loop
 form-requires c κs = search needs
 
@@ -32,9 +35,6 @@ offset-requires c κs = search needs
 
 width-requires : tie.Need-width-requires Inv-loop μ-loop
 width-requires c κs = search needs
-
-form-requires-2 : tie.Need-form-requires-2 Inv-loop μ-loop
-form-requires-2 c κs = search needs
 
 offset-requires-2 : tie.Need-offset-requires-2 Inv-loop μ-loop
 offset-requires-2 c κs = search needs
@@ -51,32 +51,17 @@ add-part c = search needs
 part-requires : tie.Need-part-requires Inv-loop μ-loop
 part-requires c κs = search needs
 
-key-in-requires : tie.Need-key-in-requires Inv-loop μ-loop
-key-in-requires c κs = search needs
-
 add-part-2 : tie.Need-add-part-2 Inv-loop μ-loop
 add-part-2 c = search needs
 
 part-requires-2 : tie.Need-part-requires-2 Inv-loop μ-loop
 part-requires-2 c κs = search needs
 
-number-in-requires : tie.Need-number-in-requires Inv-loop μ-loop
-number-in-requires c κs = search needs
+place-in-requires : tie.Need-place-in-requires Inv-loop μ-loop
+place-in-requires c κs = search needs
 
 mul-out : tie.Need-mul-out Inv-loop μ-loop
-mul-out c =
-    let d = c .before .before .before .before .before in
-    let h = c .before .before .key-in .ensures .1 (line-form (d .before .before .before .before .before .before .form .ensures)) in
-    omega arith
-
-add-out : tie.Need-add-out Inv-loop μ-loop
-add-out c =
-    let d = c .before .before .before .before .before in
-    let h = c .before .before .key-in .ensures .1 (line-form (d .before .before .before .before .before .before .form .ensures)) in
-    omega arith
-
-mul-out-2 : tie.Need-mul-out-2 Inv-loop μ-loop
-mul-out-2 c = search needs
+mul-out c = search needs
 
 slice-write-out : tie.Need-slice-write-out Inv-loop μ-loop
 slice-write-out c = search needs
@@ -86,7 +71,7 @@ length-requires c κs = search needs
 
 add-at : tie.Need-add-at Inv-loop μ-loop
 add-at c =
-    let d = c .before .before .before .before .before .before in
+    let d = c .before .before .before .before .before in
     let h = starts-next (d .loop .inv .1) (c .length .ensures) in
     omega arith
 
@@ -98,19 +83,20 @@ loop-less c = search needs
 
 loop-again : tie.Need-loop-again Inv-loop μ-loop
 loop-again c =
-    let x = c .before .before .before in
-    let t = x .before .before in
+    let p = c .before .before in
+    let t = p .before .before in
     let d = t .before in
-    let y = d .before .before in
-    let w = y .before .before in
+    let w = d .before .before .before in
     let o = w .before in
-    let e = o .before .before in
+    let g = o .before .before in
+    let e = g .before in
     let cut = cut-field _ _ (e .before .rows .ensures .0) (t .loop-test .taken) (d .loop .inv .1) in
-    let line-text = cut 1 _ _ _ (o .offset .ensures .0) (w .width .ensures .0) (x .before .part .ensures) in
-    let order-text = cut 2 _ _ _ (y .offset2 .ensures .0) (d .before .width2 .ensures .0) (c .before .before .part2 .ensures) in
-    let line = key-cut _ _ _ 1 (o .before .form .ensures) line-text (x .key-in .ensures .0) in
-    let order = number-cut _ _ _ 2 (y .before .form2 .ensures) order-text (c .before .number-in .ensures .0) in (
-      filling-more (d .loop .inv .0) (e .if1 .left) (t .loop-test .taken) (key-vertex _ _ line order),
+    let size = cut _ _ _ _ (o .offset .ensures .0) (w .width .ensures .0) (p .part2 .ensures) in
+    let sign =
+    cut _ _ _ _ (d .before .before .offset2 .ensures .0 ∙ ap (offsetAt _) (g .sign-field .ensures))
+    (d .before .width2 .ensures .0 ∙ ap (widthAt _) (g .sign-field .ensures))
+    (p .before .part .ensures) in (
+      filling-more (d .loop .inv .0) (e .if1 .left) (t .loop-test .taken) (place-cut _ _ _ _ (o .before .form .ensures) size sign (c .before .place-in .ensures .0)),
       starts-next (d .loop .inv .1) (c .length .ensures),
     )
 
@@ -123,30 +109,27 @@ returns-2 c =
     let r = d .before .before .before .before .before .before .before .before .rows .ensures in
     filling-all (d .loop .inv .0) (d .before .before .before .before .before .before .before .if1 .left) (omega (arith, r .0, r .1)) (c .loop-test .left) (r .0)
 
-pub fill-vertex-keys-spec : {M : Type 1} → statement M
-fill-vertex-keys-spec =
+pub fill-places-spec : {M : Type 1} → statement M
+fill-places-spec =
     tie.close
     (tie.spec
     Inv-loop
     μ-loop
     rows-requires
     returns
+    sign-field-requires
     form-requires
     offset-requires
     width-requires
-    form-requires-2
     offset-requires-2
     width-requires-2
     loop-holds
     add-part
     part-requires
-    key-in-requires
     add-part-2
     part-requires-2
-    number-in-requires
+    place-in-requires
     mul-out
-    add-out
-    mul-out-2
     slice-write-out
     length-requires
     add-at

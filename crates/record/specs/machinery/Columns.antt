@@ -1,4 +1,4 @@
--- A column of numbers in an array, as the code's searches have it; no promise cites this file.
+-- Machinery: a column of numbers in an array, as the code's searches have it. No promise cites this file.
 -- Assumes nothing.
 use Prim.Native.Nat.{ℕ, _≤_, _<_}
 use mathlib.Core.List.{List}

@@ -1,5 +1,5 @@
 -- The loops that read a column into an array (specs/Columns.antt): what is read so far, from the start to the end, and what is cut of each
--- record. The first repeat in it.
+-- record.
 -- Assumes nothing.
 use Prim.Native.Nat.{ℕ, _+_, _-_, _*_, _≤_, _<_, min}
 use mathlib.Core.List.{List, []}
@@ -10,29 +10,23 @@ use native.Mathlib.Omega.{arith}
 use borrow.Author.Count.{below-none, below-more}
 use lib.ListN.{length, getD, set, take, drop, length-set}
 use lib.Seq.{getD-set-same, getD-set-other}
-use Rattle.laws.specs.Find.{firstIndex}
 use Rattle.record.specs.declared.kind.Kind.{Kind}
-use Rattle.record.specs.declared.kind.Kind.the-variants.{Vertice}
 use Rattle.record.specs.declared.kind.Form.{Form}
-use Rattle.record.specs.Table.{limit, lengthOf, formAt, offsetAt, widthAt}
+use Rattle.record.specs.Table.{limit, lengthOf, keysOf, formAt, offsetAt, widthAt}
 use Rattle.record.specs.Cut.{countOf, recordOf, textOf}
 use Rattle.record.specs.Says.{saidAs, saidIn, tableOf, numberIn, keyIn, letterIn, placeIn}
 use Rattle.record.proofs.TableLaws.{sane}
 use Rattle.record.proofs.CutLaws.{record-field}
 use Rattle.record.proofs.SaysLaws.{number-before, key-before, letter-before}
-use Rattle.index.specs.declared.Found.{Found}
-use Rattle.index.specs.Keys.{foundOf, duplicateIn}
-use Rattle.index.proofs.TwiceLaws.{Filled, duplicate-fits, duplicate-filled}
-use Rattle.keys.specs.Columns.{Fills, ReadInto}
-use Rattle.keys.specs.Delivery.{nameAt, keyOf}
-use Rattle.keys.specs.Rules.{repeats}
-use Rattle.keys.proofs.NameLaws.{Among, noVertice, key-name}
+use Rattle.record.specs.Names.{nameAt, keyOf}
+use Rattle.record.specs.machinery.Columns.{Fills, ReadInto}
+use Rattle.record.proofs.NameLaws.{key-name}
 
 -- the loop's invariant: of the column's n numbers, the first i are in the room, and the rest of it is as before
 pub record Filling (column : ℕ → ℕ) (n : ℕ) (before out : List ℕ) (i : ℕ) : Type 0 where
   pub within : i ≤ n
   pub long : length out ≡ length before
-  pub filled : Filled column out i
+  pub filled : (j : ℕ) → j < i → getD out j 0 ≡ column j
   pub rest : (j : ℕ) → i ≤ j → getD out j 0 ≡ getD before j 0
 
 pub filling-none : (column : ℕ → ℕ) {n : ℕ} (before : List ℕ) → Filling column n before before 0
@@ -79,13 +73,6 @@ pub read-fills : {before out : List ℕ} {column : ℕ → ℕ} {n r : ℕ} → 
 read-fills l f =
     let e = f .fits (omega (arith, f .small, l)) in
     record { count = e; small = f .small; long = f .long ∙ l; holds = λ i li. f .holds i (omega (arith, e)) }
-
--- REPEATS: what is found in the array is the column's
-pub repeat-filled : {out : List ℕ} (column : ℕ → ℕ) {n r : ℕ} {found : Found} → Fills out column n r → found ≡ foundOf (duplicateIn out r)
-    → found ≡ foundOf (firstIndex (λ i. repeats column i) n)
-unfolding repeats
-repeat-filled {out} column {n} {r} f h =
-    h ∙ ap foundOf (duplicate-fits out r (omega (arith, f .small, f .long, f .count))) ∙ rw (f .count) (ap foundOf (duplicate-filled column out n (f .holds)))
 
 -- WHERE RECORD i STARTS, and that it is near enough for sums to fit
 pub record Starts (k : Kind) (i at : ℕ) : Type 0 where
@@ -139,12 +126,7 @@ read-same other same h =
       rest = h .rest;
     }
 
--- KEYS are those of vertices, and else names
-module _ {before out : List ℕ} (s : List ℕ) {r : ℕ} where
-  pub keys-vertices : {k : Kind} → k ≡ Vertice → ReadInto before out (λ i. keyOf Vertice (tableOf s Vertice) i) (tableOf s Vertice .count) r
-      → ReadInto before out (λ i. keyOf k (tableOf s k) i) (tableOf s k .count) r
-  keys-vertices e h = rw e h
-
-  pub keys-names : (k : Kind) → Among noVertice k → ReadInto before out (λ i. nameAt k (tableOf s k) i 1) (tableOf s k .count) r
-      → ReadInto before out (λ i. keyOf k (tableOf s k) i) (tableOf s k .count) r
-  keys-names k a h = read-same (λ i. keyOf k (tableOf s k) i) (λ i. key-name (tableOf s k) i k a) h
+-- KEYS of one field are names
+pub keys-names : {before out : List ℕ} (s : List ℕ) {r : ℕ} (k : Kind) → (keysOf k ≡ 2 → ⊥)
+    → ReadInto before out (λ i. nameAt k (tableOf s k) i 1) (tableOf s k .count) r → ReadInto before out (λ i. keyOf k (tableOf s k) i) (tableOf s k .count) r
+keys-names s k e h = read-same (λ i. keyOf k (tableOf s k) i) (λ i. key-name k (tableOf s k) i e) h

@@ -1,9 +1,9 @@
 -- `name_by` meets its contract: what is said, where that is something, is the name.
 -- Assumes nothing.
-use Rattle.keys.proofs.NameLaws.{name-there}
+use Rattle.record.proofs.NameLaws.{name-there}
 use borrow.Author.Needs.{needs}
-use Rattle.keys.proofs.column.name_by.Statement.{statement}
-use Rattle.keys.proofs.column.name_by.Tie as tie
+use Rattle.record.proofs.fill.name_by.Statement.{statement}
+use Rattle.record.proofs.fill.name_by.Tie as tie
 
 name-requires : tie.Need-name-requires
 name-requires c κs = search needs

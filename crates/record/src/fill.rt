@@ -1,21 +1,22 @@
 // Columns of names, keys, places and letters, read once into lent room. Where the room is too short for the file's records, none is read.
 //
 // Where a field stands in its record is looked up once for a column, and not once for a record: `at` is where the record in hand starts.
+use crate::columns::key_in;
+use crate::columns::letter_in;
+use crate::columns::number_in;
+use crate::columns::place_in;
+use crate::columns::rows;
+use crate::cut::part;
+use crate::kind::Kind;
 use crate::names::name;
-use record::columns::key_in;
-use record::columns::letter_in;
-use record::columns::number_in;
-use record::columns::place_in;
-use record::columns::rows;
-use record::cut::part;
-use record::kind::Kind;
 ghost use mathlib.Core.Path.{_≡_};
 ghost use Prim.Native.Nat.{ℕ, _-_};
 ghost use Rattle.record.specs.Says.{tableOf, keyIn, placeIn, letterIn};
-ghost use Rattle.keys.specs.Delivery.{nameAt, keyOf};
-ghost use Rattle.keys.specs.Columns.{ReadInto};
+ghost use Rattle.record.specs.Table.{keysOf};
+ghost use Rattle.record.specs.Names.{nameAt, keyOf};
+ghost use Rattle.record.specs.machinery.Columns.{ReadInto};
 
-// What field f of record i names, where x is what is said there as one number. Where nothing is said it may be a tramo's own line.
+// What field f of record i names, where x is what is said there as one number. Where nothing is said the record's own id may stand for it.
 fn name_by(s: &[u8], k: Kind, i: usize, f: usize, x: u64) -> u64
     requires { ⌜ x ≡ keyIn (tableOf (now s) k .says i f) ⌝ }
     ensures { λ r. ⌜ r ≡ nameAt k (tableOf (now (s .entry)) k) i f ⌝ }
@@ -45,11 +46,11 @@ pub fn fill_names(s: &[u8], k: Kind, f: usize, out: &mut [u64]) -> usize
     n
 }
 
-// The line and the order of each vertex, as one number.
-fn fill_vertex_keys(s: &[u8], out: &mut [u64]) -> usize
-    ensures { λ r. ⌜ ReadInto (now (out .entry)) (now (out .exit)) (λ i. keyOf Kind.Vertice (tableOf (now (s .entry)) Kind.Vertice) i) (tableOf (now (s .entry)) Kind.Vertice .count) r ⌝ }
+// The key of each record, where it is two fields: a line and an order.
+fn fill_pair_keys(s: &[u8], k: Kind, out: &mut [u64]) -> usize
+    requires { ⌜ keysOf k ≡ 2 ⌝ }
+    ensures { λ r. ⌜ ReadInto (now (out .entry)) (now (out .exit)) (λ i. keyOf k (tableOf (now (s .entry)) k) i) (tableOf (now (s .entry)) k .count) r ⌝ }
 {
-    let k = Kind::Vertice;
     let n = rows(s, k);
     if out.len() < n {
         return 0;
@@ -76,9 +77,10 @@ fn fill_vertex_keys(s: &[u8], out: &mut [u64]) -> usize
 pub fn fill_keys(s: &[u8], k: Kind, out: &mut [u64]) -> usize
     ensures { λ r. ⌜ ReadInto (now (out .entry)) (now (out .exit)) (λ i. keyOf k (tableOf (now (s .entry)) k) i) (tableOf (now (s .entry)) k .count) r ⌝ }
 {
-    match k {
-        Kind::Vertice => fill_vertex_keys(s, out),
-        _ => fill_names(s, k, 1, out),
+    if k.keys() == 2 {
+        fill_pair_keys(s, k, out)
+    } else {
+        fill_names(s, k, 1, out)
     }
 }
 

@@ -1,16 +1,15 @@
--- `fill_names` meets its contract: the loop has read the names of the records before i, and stands at record i.
+-- `fill_letters` meets its contract: the loop has read the letters of the records before i, and stands at record i.
 -- Assumes nothing.
 use Prim.Native.Nat.{_-_}
 use native.Mathlib.Omega.{arith}
 use borrow.Author.Needs.{needs}
-use Rattle.record.specs.Says.{tableOf}
-use Rattle.keys.specs.Delivery.{nameAt}
-use Rattle.keys.proofs.ColumnLaws.{Filling, filling-none, filling-more, filling-all, read-none, Starts, starts-first, starts-next, cut-field, key-cut}
-use Rattle.keys.proofs.column.fill_names.Statement.{statement}
-use Rattle.keys.proofs.column.fill_names.Tie as tie
+use Rattle.record.specs.Says.{tableOf, letterIn}
+use Rattle.record.proofs.ColumnLaws.{Filling, filling-none, filling-more, filling-all, read-none, Starts, starts-first, starts-next, cut-field, letter-cut}
+use Rattle.record.proofs.fill.fill_letters.Statement.{statement}
+use Rattle.record.proofs.fill.fill_letters.Tie as tie
 
 abbrev Inv-loop : tie.InvT-loop
-Inv-loop s k f out₀ n form offset width at₀ i₀ out at i = Filling (λ j. nameAt k (tableOf s k) j f) n out₀ out i × Starts k i at
+Inv-loop s k f out₀ n form offset width at₀ i₀ out at i = Filling (λ j. letterIn (tableOf s k .says j f)) n out₀ out i × Starts k i at
 
 abbrev μ-loop : tie.MeasureT-loop
 μ-loop s k f out₀ n form offset width at₀ i₀ out at i = n - i
@@ -41,17 +40,11 @@ add-part c = search needs
 part-requires : tie.Need-part-requires Inv-loop μ-loop
 part-requires c κs = search needs
 
-key-in-requires : tie.Need-key-in-requires Inv-loop μ-loop
-key-in-requires c κs = search needs
+letter-in-requires : tie.Need-letter-in-requires Inv-loop μ-loop
+letter-in-requires c κs = search needs
 
-name-by-requires : tie.Need-name-by-requires Inv-loop μ-loop
-name-by-requires c κs =
-    let t = c .before .before in
-    let d = t .before in
-    let w = d .before in
-    let o = w .before in
-    let cut = cut-field _ _ (o .before .before .before .rows .ensures .0) (t .loop-test .taken) (d .loop .inv .1) _ _ _ _ (o .offset .ensures .0) (w .width .ensures .0) (c .before .part .ensures) in
-    key-cut _ _ _ _ (o .before .form .ensures) cut (c .key-in .ensures .0)
+cast-out : tie.Need-cast-out Inv-loop μ-loop
+cast-out c = search needs
 
 mul-out : tie.Need-mul-out Inv-loop μ-loop
 mul-out c = search needs
@@ -64,7 +57,7 @@ length-requires c κs = search needs
 
 add-at : tie.Need-add-at Inv-loop μ-loop
 add-at c =
-    let d = c .before .before .before .before .before in
+    let d = c .before .before .before .before in
     let h = starts-next (d .loop .inv .1) (c .length .ensures) in
     omega arith
 
@@ -76,9 +69,13 @@ loop-less c = search needs
 
 loop-again : tie.Need-loop-again Inv-loop μ-loop
 loop-again c =
-    let t = c .before .before .before .before in
-    let d = t .before in (
-      filling-more (d .loop .inv .0) (d .before .before .before .before .if1 .left) (t .loop-test .taken) (c .before .name-by .ensures),
+    let t = c .before .before .before in
+    let d = t .before in
+    let w = d .before in
+    let o = w .before in
+    let e = o .before .before in
+    let cut = cut-field _ _ (e .before .rows .ensures .0) (t .loop-test .taken) (d .loop .inv .1) _ _ _ _ (o .offset .ensures .0) (w .width .ensures .0) (c .before .before .part .ensures) in (
+      filling-more (d .loop .inv .0) (e .if1 .left) (t .loop-test .taken) (letter-cut _ _ _ _ (o .before .form .ensures) cut (c .before .letter-in .ensures)),
       starts-next (d .loop .inv .1) (c .length .ensures),
     )
 
@@ -91,8 +88,8 @@ returns-2 c =
     let r = d .before .before .before .before .before .rows .ensures in
     filling-all (d .loop .inv .0) (d .before .before .before .before .if1 .left) (omega (arith, r .0, r .1)) (c .loop-test .left) (r .0)
 
-pub fill-names-spec : {M : Type 1} → statement M
-fill-names-spec =
+pub fill-letters-spec : {M : Type 1} → statement M
+fill-letters-spec =
     tie.close
     (tie.spec
     Inv-loop
@@ -105,8 +102,8 @@ fill-names-spec =
     loop-holds
     add-part
     part-requires
-    key-in-requires
-    name-by-requires
+    letter-in-requires
+    cast-out
     mul-out
     slice-write-out
     length-requires
