@@ -1,4 +1,5 @@
 pub mod TableLaws
+pub mod FileLaws
 pub mod CutLaws
 pub mod SaysLaws
 pub mod FindingLaws

@@ -1,4 +1,5 @@
 pub mod Table
+pub mod Files
 pub mod Cut
 pub mod Rules
 pub mod Breaks

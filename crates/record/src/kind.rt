@@ -5,6 +5,9 @@ ghost use lib.ListN.{getD};
 ghost use Rattle.laws.specs.Row.{pick};
 ghost use Rattle.record.specs.Table.{whole, offsetIn, digitOf, packedOf, codeOf, formAt, widthAt, mustAt, beforeAt, afterAt, offsetAt, fieldsOf, lengthOf, keysOf, fileOf, whichOf, isN, isCode, formOf};
 
+// How many kinds of file there are.
+pub const FILES: usize = 7;
+
 pub enum Kind {
     Catalogo,
     ObPun,
