@@ -15,16 +15,6 @@ use Rattle.keys.specs.declared.names.Target.the-variants.{Free, Nowhere,
 abbrev pub Delivery : Type 0
 Delivery = Kind → Table
 
--- the bytes of each file
-abbrev pub filesOf : List ℕ → List ℕ → List ℕ → List ℕ → List ℕ → List ℕ → List ℕ → Kind → List ℕ
-filesOf a b c d e f g Catalogo = a
-filesOf a b c d e f g ObPun = b
-filesOf a b c d e f g ObTex = c
-filesOf a b c d e f g ObLin = d
-filesOf a b c d e f g Tramo = e
-filesOf a b c d e f g Vertice = f
-filesOf a b c d e f g Nodo = g
-
 -- bytes give tables by decoding
 abbrev pub deliveryOf : (Kind → List ℕ) → Delivery
 deliveryOf files k = tableOf (files k) k

@@ -7,7 +7,7 @@ ghost use mathlib.Core.List.{List};
 ghost use Prim.Native.Nat.{ℕ, _≤_, _<_, _^_};
 ghost use Rattle.record.specs.Table.{formAt, isN};
 ghost use Rattle.record.specs.Says.{tableOf};
-ghost use Rattle.keys.specs.Delivery.{filesOf, ownLine, nameAt, keyOf, targetOf, typeOf};
+ghost use Rattle.keys.specs.Delivery.{ownLine, nameAt, keyOf, targetOf, typeOf};
 
 // What a field refers to: nothing; a record of a file that is not there; the records of a kind, by a field of theirs.
 pub enum Target {
@@ -116,29 +116,5 @@ pub fn record_key(s: &[u8], k: Kind, i: usize) -> u64
     match k {
         Kind::Vertice => vertex_key(s, i),
         _ => name(s, k, i, 1),
-    }
-}
-
-// The file of a kind among the seven.
-pub fn file_of<'a>(
-    k: Kind,
-    catalogo: &'a [u8],
-    ob_pun: &'a [u8],
-    ob_tex: &'a [u8],
-    ob_lin: &'a [u8],
-    tramo: &'a [u8],
-    vertice: &'a [u8],
-    nodo: &'a [u8],
-) -> &'a [u8]
-    ensures { λ r. ⌜ now r ≡ filesOf (now (catalogo .entry)) (now («ob_pun» .entry)) (now («ob_tex» .entry)) (now («ob_lin» .entry)) (now (tramo .entry)) (now (vertice .entry)) (now (nodo .entry)) k ⌝ }
-{
-    match k {
-        Kind::Catalogo => catalogo,
-        Kind::ObPun => ob_pun,
-        Kind::ObTex => ob_tex,
-        Kind::ObLin => ob_lin,
-        Kind::Tramo => tramo,
-        Kind::Vertice => vertice,
-        Kind::Nodo => nodo,
     }
 }

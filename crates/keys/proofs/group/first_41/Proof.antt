@@ -15,6 +15,9 @@ refers-to-catalogue-requires c κs = search needs
 file-of-requires : tie.Need-file-of-requires
 file-of-requires c κs = search needs
 
+file-of-requires-2 : tie.Need-file-of-requires-2
+file-of-requires-2 c κs = search needs
+
 type-of-requires : tie.Need-type-of-requires
 type-of-requires c κs = search needs
 
@@ -23,9 +26,9 @@ first-mistyped-requires c κs = search needs
 
 returns : tie.Need-returns
 returns c =
-    first-41 _ _ _ (c .before .before .file-of .ensures) (c .before .before .before .before .before .target-of .ensures)
-    (sym (c .before .before .before .before .refers-to-catalogue .ensures) ∙ c .before .before .before .if1 .taken)
-    (c .before .type-of .ensures) (c .first-mistyped .ensures)
+    first-41 _ _ _ (c .before .before .before .file-of .ensures) (c .before .before .before .before .before .before .target-of .ensures)
+    (sym (c .before .before .before .before .before .refers-to-catalogue .ensures) ∙ c .before .before .before .before .if1 .taken)
+    (c .before .before .file-of2 .ensures) (c .before .type-of .ensures) (c .first-mistyped .ensures)
 
 returns-2 : tie.Need-returns-2
 returns-2 c =
@@ -38,6 +41,7 @@ first-41-spec =
     target-of-requires
     refers-to-catalogue-requires
     file-of-requires
+    file-of-requires-2
     type-of-requires
     first-mistyped-requires
     returns
