@@ -9,23 +9,24 @@ use mathlib.Core.Path.{_≡_, refl, sym, ap, ap₂, fun-ext, _∙_}
 use native.Mathlib.Decide.{decLt}
 use native.Mathlib.Omega.{arith}
 use lib.Dec.{leb, eqb}
-use lib.ListN.{length, getD, List·getD-eq-default}
-use borrow.Author.Tests.{leb-true, not-true, not-false}
-use Rattle.laws.specs.Find.{hit, firstOf, firstIndex, any}
-use Rattle.laws.specs.Row.{pick, each}
-use Rattle.laws.proofs.FindLaws.{true-false, any-no, first-same}
+use lib.ListN.{getD}
+use borrow.Author.Tests.{leb-true, not-true}
+use Rattle.laws.specs.Find.{hit}
+use Rattle.laws.specs.Row.{pick, row, each}
+use Rattle.laws.proofs.FindLaws.{true-false, first-same}
 use Rattle.laws.proofs.RowLaws.{and-true}
 use Rattle.record.specs.declared.kind.Kind.{Kind}
-use Rattle.record.specs.declared.kind.Kind.the-variants.{Catalogo, ObPun, ObTex, ObLin, Tramo, Vertice, Nodo}
+use Rattle.record.specs.declared.kind.Kind.the-variants.{Catalogo}
+use Rattle.record.specs.declared.kind.Target.{Target}
+use Rattle.record.specs.declared.kind.Target.the-variants.{Free, Nowhere, To}
 use Rattle.record.specs.declared.reason.Reason.{Reason}
 use Rattle.record.specs.declared.reason.Reason.the-variants.{LongFile10, SameKey30, OtherType41}
-use Rattle.record.specs.Table.{fieldsOf, keysOf}
+use Rattle.record.specs.Table.{Col, colAt, fieldsOf, keysOf, targetOf, letterOf, isFreeWord}
 use Rattle.record.specs.Breaks.{breakOf, findingOf}
 use Rattle.record.specs.Says.{Said, missing, letterIn}
-use Rattle.record.proofs.TableLaws.{every}
-use Rattle.keys.specs.declared.names.Target.{Target}
-use Rattle.keys.specs.declared.names.Target.the-variants.{Free, Nowhere, To}
-use Rattle.keys.specs.Delivery.{Delivery, ownLine, nameAt, keyOf, targets, targetOf, typeOf, isFreeWord}
+use Rattle.record.proofs.TableLaws.{every, everywhere, every-place, past}
+use Rattle.record.specs.Files.{Delivery}
+use Rattle.record.specs.Names.{nameAt, keyOf}
 use Rattle.keys.specs.Rules.{firstWith, repeats, breaks30, dangles, danglesTo, breaks40, typedIn, mistyped, refersToCatalogue, breaks41, keyTests, keyReasons}
 use Rattle.keys.specs.Groups.{cellBreak, cellsOf, groupFinding, brokenBy, overFiles}
 use Rattle.keys.specs.Findings.{keysIn, keysFinding, keysBroken}
@@ -59,14 +60,12 @@ readBy Nowhere own = own
 readBy (To k g) own = own && isRead k g
 
 referring : (k : Kind) (f : ℕ) → readBy (targetOf k f) (isRead k f) ≡ true
-unfolding targetOf each any firstIndex firstOf
-referring k f = go (decLt f (length (targets k)))
+unfolding everywhere each row targetOf isFreeWord colAt
+referring k f = go (decLt f 16)
   where
-    go : Dec (f < length (targets k)) → readBy (targetOf k f) (isRead k f) ≡ true
-    go (yes l) =
-        not-false _ (any-no (λ g. not (readBy (targetOf k g) (isRead k g))) (length (targets k))
-        (not-true _ (every (λ j. not (any (λ g. not (readBy (targetOf j g) (isRead j g))) (length (targets j)))) refl k)) l)
-    go (no l) = ap (λ (t : Target). readBy t (isRead k f)) (List·getD-eq-default (targets k) Free {n = f} (omega arith))
+    go : Dec (f < 16) → readBy (targetOf k f) (isRead k f) ≡ true
+    go (yes l) = every-place (λ j g. readBy (targetOf j g) (isRead j g)) refl k f l
+    go (no l) = ap (λ (t : Target). readBy t (isRead k f)) (sym (past (λ (c : Col). c .refers) k f (omega arith)))
 
 -- the same test, and the same answer where it holds
 hit-same : {B : Type 0} {t u : Bool} {x y : B} → t ≡ u → (u ≡ true → x ≡ y) → hit t x ≡ hit u y
@@ -77,32 +76,17 @@ hit-same {B} {t} {u} {x} {y} e h = rw e (go u h)
     go false h = refl
 
 -- 41's letter
-abbrev letterOf : Delivery → Kind → ℕ → ℕ → ℕ
-letterOf d k i f = letterIn (d Catalogo .says (firstWith (λ j. nameAt Catalogo (d Catalogo) j 1) (d Catalogo .count) (nameAt k (d k) i f)) 2)
+abbrev cataloguedAs : Delivery → Kind → ℕ → ℕ → ℕ
+cataloguedAs d k i f = letterIn (d Catalogo .says (firstWith (λ j. nameAt Catalogo (d Catalogo) j 1) (d Catalogo .count) (nameAt k (d k) i f)) 2)
 
 module _ (d : Delivery) where
-  own-struck : (k : Kind) (i f : ℕ) → ownLine k (struck d k) i f ≡ ownLine k (d k) i f
-  own-struck Catalogo i f = refl
-  own-struck ObPun i f = refl
-  own-struck ObTex i f = refl
-  own-struck ObLin i f = refl
-  own-struck Tramo i f = refl
-  own-struck Vertice i f = refl
-  own-struck Nodo i f = refl
-
   name-struck : (k : Kind) (i f : ℕ) → isRead k f ≡ true → nameAt k (struck d k) i f ≡ nameAt k (d k) i f
-  unfolding nameAt each
-  name-struck k i f h = rw (own-struck k i f, h, every (λ j. isRead j 1) refl k)
+  unfolding nameAt each isFreeWord colAt
+  name-struck k i f h = rw (h, every (λ j. isRead j 1) refl k)
 
   key-struck : (k : Kind) (i : ℕ) → keyOf k (struck d k) i ≡ keyOf k (d k) i
-  unfolding keyOf nameAt
-  key-struck Catalogo i = refl
-  key-struck ObPun i = refl
-  key-struck ObTex i = refl
-  key-struck ObLin i = refl
-  key-struck Tramo i = refl
-  key-struck Vertice i = refl
-  key-struck Nodo i = refl
+  unfolding keyOf each isFreeWord colAt
+  key-struck k i = rw (name-struck k i 1 (every (λ j. isRead j 1) refl k), every (λ j. isRead j 2) refl k)
 
   -- THE TESTS, in the order of the rules
   struck-30 : (k : Kind) (i f : ℕ) → breaks30 (struck d) k i f ≡ breaks30 d k i f
@@ -121,28 +105,28 @@ module _ (d : Delivery) where
           ap₂ (λ (key : ℕ → ℕ) (x : ℕ). dangles key (d j .count) x) (fun-ext (λ r. name-struck j r g (w .1))) (name-struck k i f (w .0))
 
   struck-41 : (k : Kind) (i f : ℕ) → breaks41 (struck d) k i f ≡ breaks41 d k i f
-  unfolding breaks41 mistyped typedIn nameAt
+  unfolding breaks41 mistyped typedIn nameAt isFreeWord colAt
   struck-41 k i f = go (targetOf k f) (referring k f)
     where
       go :
           (t : Target) → readBy t (isRead k f) ≡ true
-          → (refersToCatalogue t && mistyped (typeOf k) (struck d Catalogo) (nameAt k (struck d k) i f)) ≡ (refersToCatalogue t && mistyped (typeOf k) (d Catalogo) (nameAt k (d k) i f))
+          → (refersToCatalogue t && mistyped (letterOf k) (struck d Catalogo) (nameAt k (struck d k) i f)) ≡ (refersToCatalogue t && mistyped (letterOf k) (d Catalogo) (nameAt k (d k) i f))
       go Free h = refl
       go Nowhere h = refl
-      go (To j g) h = ap (λ (x : ℕ). refersToCatalogue (To j g) && mistyped (typeOf k) (d Catalogo) x) (name-struck k i f (and-true (isRead k f) (isRead j g) h .0))
+      go (To j g) h = ap (λ (x : ℕ). refersToCatalogue (To j g) && mistyped (letterOf k) (d Catalogo) x) (name-struck k i f (and-true (isRead k f) (isRead j g) h .0))
 
   tests-struck : (t : ℕ) (k : Kind) (i f : ℕ) → keyTests t (struck d) k i f ≡ keyTests t d k i f
   unfolding keyTests
   tests-struck t k i f = rw (struck-30 k i f, struck-40 k i f, struck-41 k i f)
 
   -- THE REASONS: the letter that a code is catalogued under is that of any field's name, and only a reference's is told
-  letter-struck : (k : Kind) (i f : ℕ) → breaks41 d k i f ≡ true → letterOf (struck d) k i f ≡ letterOf d k i f
-  unfolding breaks41 nameAt
+  letter-struck : (k : Kind) (i f : ℕ) → breaks41 d k i f ≡ true → cataloguedAs (struck d) k i f ≡ cataloguedAs d k i f
+  unfolding breaks41 nameAt isFreeWord colAt
   letter-struck k i f = go (targetOf k f) (referring k f)
     where
       go :
-          (t : Target) → readBy t (isRead k f) ≡ true → (refersToCatalogue t && mistyped (typeOf k) (d Catalogo) (nameAt k (d k) i f)) ≡ true
-          → letterOf (struck d) k i f ≡ letterOf d k i f
+          (t : Target) → readBy t (isRead k f) ≡ true → (refersToCatalogue t && mistyped (letterOf k) (d Catalogo) (nameAt k (d k) i f)) ≡ true
+          → cataloguedAs (struck d) k i f ≡ cataloguedAs d k i f
       go Free r h = absurd (true-false (sym h))
       go Nowhere r h = absurd (true-false (sym h))
       go (To j g) r h =

@@ -26,14 +26,15 @@ use Rattle.record.specs.declared.reason.Reason.the-variants.{LongFile10, SameKe
 use Rattle.record.specs.declared.reason.Break.{Break}
 use Rattle.record.specs.declared.reason.Finding.{Finding}
 use Rattle.record.specs.declared.reason.Finding.the-variants.{Fine, Broken}
-use Rattle.record.specs.Table.{keysOf, whichOf}
+use Rattle.record.specs.Table.{keysOf, whichOf, targetOf, letterOf}
 use Rattle.record.specs.Breaks.{breakOf, findingOf, fine}
 use Rattle.record.specs.Says.{tableOf, letterIn}
 use Rattle.record.proofs.FindingLaws.{finding-more, finding-here, finding-end}
 use Rattle.keys.specs.declared.group.Best.{Best}
-use Rattle.keys.specs.declared.names.Target.{Target}
-use Rattle.keys.specs.declared.names.Target.the-variants.{Free, Nowhere, To}
-use Rattle.keys.specs.Delivery.{deliveryOf, nameAt, keyOf, targetOf, typeOf}
+use Rattle.record.specs.declared.kind.Target.{Target}
+use Rattle.record.specs.declared.kind.Target.the-variants.{Free, Nowhere, To}
+use Rattle.record.specs.Files.{deliveryOf}
+use Rattle.record.specs.Names.{nameAt, keyOf}
 use Rattle.keys.specs.Rules.{orFirst, firstWith, repeats, breaks30, dangles, breaks40, mistyped, refersToCatalogue, breaks41, keyTests, keyReasons}
 use Rattle.keys.specs.Groups.{Tests, Reasons, cellBreak, cellsOf, groupFinding, betterOf, noBest, bestOf, breakIn, atFile, overFiles}
 use Rattle.keys.proofs.FoundLaws.{Passed, found-more}
@@ -279,21 +280,21 @@ pub files-start : (g : Kind → Finding) → Onward g 0
 files-start g = record { past = fines-start _ _ }
 
 module _ {g : Kind → Finding} {n : ℕ} (s : Onward g n) where
-  pub files-end : 8 ≤ n → Fine ≡ overFiles g
+  pub files-end : 7 < n → Fine ≡ overFiles g
   unfolding overFiles fileAt
   files-end l = fines-end (s .past) l
 
-  module _ {w : Which} {v : Finding} {r : Bool} (l : n < 8) (e : w ≡ whichOf n) (h : v ≡ atFile g w) (q : r ≡ fine v) where
+  module _ {w : Which} {v : Finding} {r : Bool} (l : n ≤ 7) (e : w ≡ whichOf n) (h : v ≡ atFile g w) (q : r ≡ fine v) where
     numbered : v ≡ fileAt g n
     unfolding fileAt
     numbered = h ∙ ap (atFile g) e
 
     pub files-more : r ≡ true → Onward g (n + 1)
-    files-more y = record { past = fines-more (s .past) l numbered q y }
+    files-more y = record { past = fines-more (s .past) (omega arith) numbered q y }
 
     pub files-here : r ≡ false → v ≡ overFiles g
     unfolding overFiles fileAt
-    files-here y = fines-here (s .past) l numbered q y
+    files-here y = fines-here (s .past) (omega arith) numbered q y
 
 -- THE CELLS of the thirties and forties, as the code finds their first records: own are the file's bytes, and r what was found
 pub first-false : (p : ℕ → Bool) (n : ℕ) → ((i : ℕ) → p i ≡ false) → Nothing ≡ foundOf (firstIndex p n)
@@ -332,11 +333,11 @@ module _ (files : Kind → List ℕ) (k : Kind) (f : ℕ) where
     unfolding breaks40
     first-40-to q w u h = h ∙ rw (e, ← q, w, u)
 
-    pub first-41 : {t : Target} {wanted : ℕ} → t ≡ targetOf k f → refersToCatalogue t ≡ true → wanted ≡ typeOf k
-        → r ≡ foundOf (firstIndex (λ i. mistyped wanted (tableOf (files Catalogo) Catalogo) (nameAt k (tableOf own k) i f)) (tableOf own k .count))
+    pub first-41 : {t : Target} {wanted : ℕ} {codes : List ℕ} → t ≡ targetOf k f → refersToCatalogue t ≡ true → codes ≡ files Catalogo → wanted ≡ letterOf k
+        → r ≡ foundOf (firstIndex (λ i. mistyped wanted (tableOf codes Catalogo) (nameAt k (tableOf own k) i f)) (tableOf own k .count))
         → r ≡ foundOf (firstIndex (λ i. breaks41 (deliveryOf files) k i f) (deliveryOf files k .count))
     unfolding breaks41
-    first-41 q w u h = h ∙ rw (e, ← q, w, u)
+    first-41 q w c u h = h ∙ rw (e, ← q, w, c, u)
 
 -- THE LISTS of tests and reasons by the ten t and the digit u: away from 30, 40 and 41 the default stands
 pub record Other (t u : ℕ) : Type 0 where
@@ -389,11 +390,11 @@ module _ (files : Kind → List ℕ) (k : Kind) (f : ℕ) {t u : ℕ} where
       unfolding keyReasons
       reason-30 e h q v = rw (e, h, v, q, w, add-one)
 
-      pub reason-41 : {x j m z : ℕ} → t ≡ 4 → u ≡ 1 → m ≡ tableOf (files Catalogo) Catalogo .count → x ≡ nameAt k (tableOf own k) i f
-          → j ≡ firstWith (keyOf Catalogo (tableOf (files Catalogo) Catalogo)) m x → z ≡ letterIn (tableOf (files Catalogo) Catalogo .says j 2)
+      pub reason-41 : {x j m z : ℕ} {codes : List ℕ} → t ≡ 4 → u ≡ 1 → codes ≡ files Catalogo → m ≡ tableOf codes Catalogo .count
+          → x ≡ nameAt k (tableOf own k) i f → j ≡ firstWith (keyOf Catalogo (tableOf codes Catalogo)) m x → z ≡ letterIn (tableOf codes Catalogo .says j 2)
           → OtherType41 z ≡ getD (keyReasons t (deliveryOf files) k i f) u LongFile10
       unfolding keyReasons keyOf
-      reason-41 e h p q v y = rw (e, h, y, v, p, q, w)
+      reason-41 e h c p q v y = rw (e, h, y, v, p, q, w, c)
 
 -- THE FIRST OF A NAME: a loop that looks for it has the invariant `Passed`
 module _ (key : ℕ → ℕ) (n x : ℕ) where

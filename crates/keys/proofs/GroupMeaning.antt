@@ -28,7 +28,7 @@ use Rattle.record.specs.Table.{fieldsOf, fileOf, whichOf}
 use Rattle.record.specs.Breaks.{numberOf, findingOf}
 use Rattle.record.specs.Claims.{MeansBy}
 use Rattle.record.proofs.TableLaws.{sane}
-use Rattle.keys.specs.Delivery.{Delivery}
+use Rattle.record.specs.Files.{Delivery}
 use Rattle.keys.specs.Rules.{keyTests, keyReasons}
 use Rattle.keys.specs.Groups.{Tests, Reasons, cellsOf, groupFinding, brokenBy, breakIn, atFile, overFiles}
 use Rattle.keys.specs.Findings.{keysIn, keysBroken}

@@ -1,6 +1,5 @@
 pub mod FoundLaws
-pub mod ColumnLaws
-pub mod NameLaws
+pub mod RepeatLaws
 pub mod ReferLaws
 pub mod CellLaws
 pub mod GroupMeaning

@@ -18,8 +18,8 @@ use Rattle.index.specs.declared.Found.the-variants.{At, Nothing}
 use Rattle.index.proofs.LookLaws.{sought-record, sought-yes, sought-none}
 use Rattle.record.specs.declared.kind.Kind.the-variants.{Catalogo}
 use Rattle.record.specs.Says.{Table, letterIn}
-use Rattle.keys.specs.Columns.{Fills}
-use Rattle.keys.specs.Delivery.{nameAt}
+use Rattle.record.specs.machinery.Columns.{Fills}
+use Rattle.record.specs.Names.{nameAt}
 use Rattle.keys.specs.Rules.{dangles, typedIn, mistyped}
 
 -- A NAME that dangles, where r is whether a record has it

@@ -9,7 +9,7 @@ use Rattle.record.specs.declared.reason.Reason.the-variants.{LongFile10}
 use Rattle.record.specs.declared.reason.Break.{Break}
 use Rattle.record.specs.declared.reason.Finding.the-variants.{Broken}
 use Rattle.record.specs.Breaks.{numberOf, breakOf}
-use Rattle.keys.specs.Delivery.{Delivery}
+use Rattle.record.specs.Files.{Delivery}
 use Rattle.keys.specs.Rules.{keyTests, keyReasons}
 use Rattle.keys.specs.Groups.{Tests, Reasons, cellsOf, groupFinding}
 use Rattle.keys.specs.Findings.{keysIn}

@@ -4,7 +4,7 @@ use Prim.Native.Nat.{ℕ}
 use mathlib.Core.Bool.{Bool}
 use Rattle.record.specs.declared.kind.Kind.{Kind}
 use Rattle.record.specs.declared.reason.Finding.{Finding}
-use Rattle.keys.specs.Delivery.{Delivery}
+use Rattle.record.specs.Files.{Delivery}
 use Rattle.keys.specs.Rules.{keyTests, keyReasons}
 use Rattle.keys.specs.Groups.{groupFinding, brokenBy, overFiles}
 

@@ -1,5 +1,3 @@
-pub mod Delivery
 pub mod Rules
-pub mod Columns
 pub mod Groups
 pub mod Findings

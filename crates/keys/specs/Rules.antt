@@ -12,11 +12,12 @@ use Rattle.record.specs.declared.kind.Kind.{Kind}
 use Rattle.record.specs.declared.kind.Kind.the-variants.{Catalogo}
 use Rattle.record.specs.declared.reason.Reason.{Reason}
 use Rattle.record.specs.declared.reason.Reason.the-variants.{LongFile10, SameKey30, NoRecord40, OtherType41}
-use Rattle.record.specs.Table.{keysOf, fileOf}
+use Rattle.record.specs.Table.{keysOf, fileOf, targetOf, letterOf}
 use Rattle.record.specs.Says.{Table, letterIn}
-use Rattle.keys.specs.declared.names.Target.{Target}
-use Rattle.keys.specs.declared.names.Target.the-variants.{Free, Nowhere, To}
-use Rattle.keys.specs.Delivery.{Delivery, nameAt, keyOf, targetOf, typeOf}
+use Rattle.record.specs.declared.kind.Target.{Target}
+use Rattle.record.specs.declared.kind.Target.the-variants.{Free, Nowhere, To}
+use Rattle.record.specs.Files.{Delivery}
+use Rattle.record.specs.Names.{nameAt, keyOf}
 
 -- the first of n that has the number x, counted from 0; 0 where none has
 abbrev pub orFirst : Option ℕ → ℕ
@@ -62,7 +63,7 @@ refersToCatalogue (To k g) = eqb (fileOf k) (fileOf Catalogo)
 
 -- 41: CODIGO is catalogued under another type than this file's
 unfoldable pub breaks41 : Delivery → Kind → ℕ → ℕ → Bool
-breaks41 d k i f = refersToCatalogue (targetOf k f) && mistyped (typeOf k) (d Catalogo) (nameAt k (d k) i f)
+breaks41 d k i f = refersToCatalogue (targetOf k f) && mistyped (letterOf k) (d Catalogo) (nameAt k (d k) i f)
 
 -- the tests of a place, by the tens of the reason
 unfoldable pub keyTests : ℕ → Delivery → Kind → ℕ → ℕ → List Bool

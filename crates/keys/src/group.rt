@@ -1,11 +1,5 @@
 // The first break of the thirties and forties in a file and in a delivery. A file's first break is sought by cells, ten a field, one
 // for each reason: the first record of each cell, and of those the least.
-use crate::names::Target;
-use crate::names::file_of;
-use crate::names::name;
-use crate::names::record_key;
-use crate::names::target_of;
-use crate::names::type_of;
 use crate::refer::first_dangling;
 use crate::refer::first_mistyped;
 use crate::refer::first_present;
@@ -14,20 +8,27 @@ use index::Found;
 use record::check::break_of;
 use record::columns::letter;
 use record::columns::rows;
+use record::files::file_of;
+use record::kind::FILES;
 use record::kind::Kind;
+use record::kind::Target;
 use record::kind::Which;
 use record::kind::kind_of;
+use record::names::name;
+use record::names::record_key;
 use record::reason::Finding;
 use record::reason::Reason;
 ghost use mathlib.Core.Path.{_≡_};
 ghost use mathlib.Core.Bool.{false};
-ghost use mathlib.Core.List.{List};
+ghost use mathlib.Core.List.{List, map};
 ghost use Prim.Native.Nat.{ℕ, _≤_, _<_};
 ghost use lib.ListN.{getD};
 ghost use Rattle.laws.specs.Find.{firstIndex};
 ghost use Rattle.index.specs.Keys.{foundOf};
+ghost use Rattle.record.specs.Table.{limit};
+ghost use Rattle.record.specs.Files.{filesOf, deliveryOf};
 ghost use Rattle.record.specs.Says.{tableOf};
-ghost use Rattle.keys.specs.Delivery.{filesOf, deliveryOf, nameAt, keyOf};
+ghost use Rattle.record.specs.Names.{nameAt, keyOf};
 ghost use Rattle.keys.specs.Rules.{breaks30, breaks40, breaks41, keyTests, keyReasons, refersToCatalogue, firstWith};
 ghost use Rattle.keys.specs.Groups.{betterOf, atFile};
 ghost use Rattle.keys.specs.Findings.{keysIn, keysFinding};
@@ -60,58 +61,26 @@ pub fn better(best: Best, found: Found, cell: usize) -> Best
 }
 
 // 30, at the key's last field.
-fn first_30<'a>(
-    k: Kind,
-    f: usize,
-    catalogo: &'a [u8],
-    ob_pun: &'a [u8],
-    ob_tex: &'a [u8],
-    ob_lin: &'a [u8],
-    tramo: &'a [u8],
-    vertice: &'a [u8],
-    nodo: &'a [u8],
-) -> Found
-    ensures { λ r. ⌜ r ≡ foundOf (firstIndex (λ i. breaks30 (deliveryOf (filesOf (now (catalogo .entry)) (now («ob_pun» .entry)) (now («ob_tex» .entry)) (now («ob_lin» .entry)) (now (tramo .entry)) (now (vertice .entry)) (now (nodo .entry)))) k i f) ((deliveryOf (filesOf (now (catalogo .entry)) (now («ob_pun» .entry)) (now («ob_tex» .entry)) (now («ob_lin» .entry)) (now (tramo .entry)) (now (vertice .entry)) (now (nodo .entry)))) k .count)) ⌝ }
+fn first_30<'a>(k: Kind, f: usize, files: [&'a [u8]; FILES]) -> Found
+    ensures { λ r. ⌜ r ≡ foundOf (firstIndex (λ i. breaks30 (deliveryOf (filesOf (map now (files .entry)))) k i f) (deliveryOf (filesOf (map now (files .entry))) k .count)) ⌝ }
 {
     if f == k.keys() {
-        first_repeat(
-            file_of(k, catalogo, ob_pun, ob_tex, ob_lin, tramo, vertice, nodo),
-            k,
-        )
+        first_repeat(file_of(files, k), k)
     } else {
         Found::Nothing
     }
 }
 
 // 40, by what the field refers to.
-fn first_40<'a>(
-    k: Kind,
-    f: usize,
-    catalogo: &'a [u8],
-    ob_pun: &'a [u8],
-    ob_tex: &'a [u8],
-    ob_lin: &'a [u8],
-    tramo: &'a [u8],
-    vertice: &'a [u8],
-    nodo: &'a [u8],
-) -> Found
-    ensures { λ r. ⌜ r ≡ foundOf (firstIndex (λ i. breaks40 (deliveryOf (filesOf (now (catalogo .entry)) (now («ob_pun» .entry)) (now («ob_tex» .entry)) (now («ob_lin» .entry)) (now (tramo .entry)) (now (vertice .entry)) (now (nodo .entry)))) k i f) ((deliveryOf (filesOf (now (catalogo .entry)) (now («ob_pun» .entry)) (now («ob_tex» .entry)) (now («ob_lin» .entry)) (now (tramo .entry)) (now (vertice .entry)) (now (nodo .entry)))) k .count)) ⌝ }
+fn first_40<'a>(k: Kind, f: usize, files: [&'a [u8]; FILES]) -> Found
+    ensures { λ r. ⌜ r ≡ foundOf (firstIndex (λ i. breaks40 (deliveryOf (filesOf (map now (files .entry)))) k i f) (deliveryOf (filesOf (map now (files .entry))) k .count)) ⌝ }
 {
-    let own = file_of(k, catalogo, ob_pun, ob_tex, ob_lin, tramo, vertice, nodo);
-    match target_of(k, f) {
+    let own = file_of(files, k);
+    match k.target(f) {
         Target::Free => Found::Nothing,
         Target::Nowhere => first_present(own, k, f),
         Target::To(other, g) => {
-            let to = file_of(
-                other,
-                catalogo,
-                ob_pun,
-                ob_tex,
-                ob_lin,
-                tramo,
-                vertice,
-                nodo,
-            );
+            let to = file_of(files, other);
             first_dangling(own, k, f, to, other, g)
         }
     }
@@ -128,55 +97,34 @@ fn refers_to_catalogue(t: Target) -> bool
 }
 
 // 41, of a code.
-fn first_41<'a>(
-    k: Kind,
-    f: usize,
-    catalogo: &'a [u8],
-    ob_pun: &'a [u8],
-    ob_tex: &'a [u8],
-    ob_lin: &'a [u8],
-    tramo: &'a [u8],
-    vertice: &'a [u8],
-    nodo: &'a [u8],
-) -> Found
-    ensures { λ r. ⌜ r ≡ foundOf (firstIndex (λ i. breaks41 (deliveryOf (filesOf (now (catalogo .entry)) (now («ob_pun» .entry)) (now («ob_tex» .entry)) (now («ob_lin» .entry)) (now (tramo .entry)) (now (vertice .entry)) (now (nodo .entry)))) k i f) ((deliveryOf (filesOf (now (catalogo .entry)) (now («ob_pun» .entry)) (now («ob_tex» .entry)) (now («ob_lin» .entry)) (now (tramo .entry)) (now (vertice .entry)) (now (nodo .entry)))) k .count)) ⌝ }
+fn first_41<'a>(k: Kind, f: usize, files: [&'a [u8]; FILES]) -> Found
+    ensures { λ r. ⌜ r ≡ foundOf (firstIndex (λ i. breaks41 (deliveryOf (filesOf (map now (files .entry)))) k i f) (deliveryOf (filesOf (map now (files .entry))) k .count)) ⌝ }
 {
-    if refers_to_catalogue(target_of(k, f)) {
-        let own = file_of(k, catalogo, ob_pun, ob_tex, ob_lin, tramo, vertice, nodo);
-        first_mistyped(own, k, f, catalogo, type_of(k))
+    if refers_to_catalogue(k.target(f)) {
+        let own = file_of(files, k);
+        let catalogo = file_of(files, Kind::Catalogo);
+        first_mistyped(own, k, f, catalogo, k.letter())
     } else {
         Found::Nothing
     }
 }
 
 // The first record of file k that breaks the reason 10 t + u at field f.
-fn first_in<'a>(
-    t: usize,
-    k: Kind,
-    f: usize,
-    u: usize,
-    catalogo: &'a [u8],
-    ob_pun: &'a [u8],
-    ob_tex: &'a [u8],
-    ob_lin: &'a [u8],
-    tramo: &'a [u8],
-    vertice: &'a [u8],
-    nodo: &'a [u8],
-) -> Found
-    ensures { λ r. ⌜ r ≡ foundOf (firstIndex (λ i. getD (keyTests t (deliveryOf (filesOf (now (catalogo .entry)) (now («ob_pun» .entry)) (now («ob_tex» .entry)) (now («ob_lin» .entry)) (now (tramo .entry)) (now (vertice .entry)) (now (nodo .entry)))) k i f) u false) ((deliveryOf (filesOf (now (catalogo .entry)) (now («ob_pun» .entry)) (now («ob_tex» .entry)) (now («ob_lin» .entry)) (now (tramo .entry)) (now (vertice .entry)) (now (nodo .entry)))) k .count)) ⌝ }
+fn first_in<'a>(t: usize, k: Kind, f: usize, u: usize, files: [&'a [u8]; FILES]) -> Found
+    ensures { λ r. ⌜ r ≡ foundOf (firstIndex (λ i. getD (keyTests t (deliveryOf (filesOf (map now (files .entry)))) k i f) u false) (deliveryOf (filesOf (map now (files .entry))) k .count)) ⌝ }
 {
     if t == 3 {
         if u == 0 {
-            return first_30(k, f, catalogo, ob_pun, ob_tex, ob_lin, tramo, vertice, nodo);
+            return first_30(k, f, files);
         }
         return Found::Nothing;
     }
     if t == 4 {
         if u == 0 {
-            return first_40(k, f, catalogo, ob_pun, ob_tex, ob_lin, tramo, vertice, nodo);
+            return first_40(k, f, files);
         }
         if u == 1 {
-            return first_41(k, f, catalogo, ob_pun, ob_tex, ob_lin, tramo, vertice, nodo);
+            return first_41(k, f, files);
         }
     }
     Found::Nothing
@@ -203,18 +151,12 @@ fn reason_in<'a>(
     i: usize,
     f: usize,
     u: usize,
-    catalogo: &'a [u8],
-    ob_pun: &'a [u8],
-    ob_tex: &'a [u8],
-    ob_lin: &'a [u8],
-    tramo: &'a [u8],
-    vertice: &'a [u8],
-    nodo: &'a [u8],
+    files: [&'a [u8]; FILES],
 ) -> Reason
-    requires { ⌜ i < 16384 ⌝ }
-    ensures { λ r. ⌜ r ≡ getD (keyReasons t (deliveryOf (filesOf (now (catalogo .entry)) (now («ob_pun» .entry)) (now («ob_tex» .entry)) (now («ob_lin» .entry)) (now (tramo .entry)) (now (vertice .entry)) (now (nodo .entry)))) k i f) u Reason.LongFile10 ⌝ }
+    requires { ⌜ i < limit ⌝ }
+    ensures { λ r. ⌜ r ≡ getD (keyReasons t (deliveryOf (filesOf (map now (files .entry)))) k i f) u Reason.LongFile10 ⌝ }
 {
-    let own = file_of(k, catalogo, ob_pun, ob_tex, ob_lin, tramo, vertice, nodo);
+    let own = file_of(files, k);
     if t == 3 {
         if u == 0 {
             return Reason::SameKey30(first_with_key(own, k, i, record_key(own, k, i)) + 1);
@@ -226,6 +168,7 @@ fn reason_in<'a>(
             return Reason::NoRecord40;
         }
         if u == 1 {
+            let catalogo = file_of(files, Kind::Catalogo);
             let n = rows(catalogo, Kind::Catalogo);
             let j = first_with_key(catalogo, Kind::Catalogo, n, name(own, k, i, f));
             return Reason::OtherType41(letter(catalogo, Kind::Catalogo, j, 2));
@@ -235,18 +178,8 @@ fn reason_in<'a>(
 }
 
 // The first break of the ten t in file k.
-fn check_file<'a>(
-    t: usize,
-    k: Kind,
-    catalogo: &'a [u8],
-    ob_pun: &'a [u8],
-    ob_tex: &'a [u8],
-    ob_lin: &'a [u8],
-    tramo: &'a [u8],
-    vertice: &'a [u8],
-    nodo: &'a [u8],
-) -> Finding
-    ensures { λ r. ⌜ r ≡ keysIn t (deliveryOf (filesOf (now (catalogo .entry)) (now («ob_pun» .entry)) (now («ob_tex» .entry)) (now («ob_lin» .entry)) (now (tramo .entry)) (now (vertice .entry)) (now (nodo .entry)))) k ⌝ }
+fn check_file<'a>(t: usize, k: Kind, files: [&'a [u8]; FILES]) -> Finding
+    ensures { λ r. ⌜ r ≡ keysIn t (deliveryOf (filesOf (map now (files .entry)))) k ⌝ }
 {
     let n = (k.fields() + 1) * 10;
     let mut best = Best {
@@ -256,19 +189,7 @@ fn check_file<'a>(
     };
     let mut c = 0;
     while c < n {
-        let found = first_in(
-            t,
-            k,
-            c / 10,
-            c % 10,
-            catalogo,
-            ob_pun,
-            ob_tex,
-            ob_lin,
-            tramo,
-            vertice,
-            nodo,
-        );
+        let found = first_in(t, k, c / 10, c % 10, files);
         best = better(best, found, c);
         c += 1;
     }
@@ -276,20 +197,7 @@ fn check_file<'a>(
         let i = best.at;
         let f = best.cell / 10;
         let u = best.cell % 10;
-        let reason = reason_in(
-            t,
-            k,
-            i,
-            f,
-            u,
-            catalogo,
-            ob_pun,
-            ob_tex,
-            ob_lin,
-            tramo,
-            vertice,
-            nodo,
-        );
+        let reason = reason_in(t, k, i, f, u, files);
         Finding::Broken(break_of(reason, k, i + 1, f))
     } else {
         Finding::Fine
@@ -297,51 +205,22 @@ fn check_file<'a>(
 }
 
 // What a file number's kind gives, and nothing where there is none.
-fn check_which<'a>(
-    t: usize,
-    which: Which,
-    catalogo: &'a [u8],
-    ob_pun: &'a [u8],
-    ob_tex: &'a [u8],
-    ob_lin: &'a [u8],
-    tramo: &'a [u8],
-    vertice: &'a [u8],
-    nodo: &'a [u8],
-) -> Finding
-    ensures { λ r. ⌜ r ≡ atFile (keysIn t (deliveryOf (filesOf (now (catalogo .entry)) (now («ob_pun» .entry)) (now («ob_tex» .entry)) (now («ob_lin» .entry)) (now (tramo .entry)) (now (vertice .entry)) (now (nodo .entry))))) which ⌝ }
+fn check_which<'a>(t: usize, which: Which, files: [&'a [u8]; FILES]) -> Finding
+    ensures { λ r. ⌜ r ≡ atFile (keysIn t (deliveryOf (filesOf (map now (files .entry))))) which ⌝ }
 {
     match which {
         Which::NoFile => Finding::Fine,
-        Which::File(k) => check_file(t, k, catalogo, ob_pun, ob_tex, ob_lin, tramo, vertice, nodo),
+        Which::File(k) => check_file(t, k, files),
     }
 }
 
 // The first break of the ten t, 3 or 4, in a delivery.
-pub fn check_keys<'a>(
-    t: usize,
-    catalogo: &'a [u8],
-    ob_pun: &'a [u8],
-    ob_tex: &'a [u8],
-    ob_lin: &'a [u8],
-    tramo: &'a [u8],
-    vertice: &'a [u8],
-    nodo: &'a [u8],
-) -> Finding
-    ensures { λ r. ⌜ r ≡ keysFinding t (deliveryOf (filesOf (now (catalogo .entry)) (now («ob_pun» .entry)) (now («ob_tex» .entry)) (now («ob_lin» .entry)) (now (tramo .entry)) (now (vertice .entry)) (now (nodo .entry)))) ⌝ }
+pub fn check_keys<'a>(t: usize, files: [&'a [u8]; FILES]) -> Finding
+    ensures { λ r. ⌜ r ≡ keysFinding t (deliveryOf (filesOf (map now (files .entry)))) ⌝ }
 {
     let mut n = 0;
-    while n < 8 {
-        let v = check_which(
-            t,
-            kind_of(n),
-            catalogo,
-            ob_pun,
-            ob_tex,
-            ob_lin,
-            tramo,
-            vertice,
-            nodo,
-        );
+    while n <= FILES {
+        let v = check_which(t, kind_of(n), files);
         if v.is_fine() {
             n += 1;
         } else {

@@ -1,6 +1,4 @@
 // Reasons 40 and 41: the first record of a file with a reference that names no record, or a code of another type.
-use crate::column::fill_names;
-use crate::names::name;
 use index::Found;
 use index::hint::all_present_in;
 use index::hint::fill_hints;
@@ -9,7 +7,10 @@ use index::look::has;
 use index::order::sort;
 use record::columns::letter;
 use record::columns::rows;
+use record::fill::fill_names;
 use record::kind::Kind;
+use record::kind::LIMIT;
+use record::names::name;
 ghost use mathlib.Core.Path.{_≡_};
 ghost use mathlib.Core.Bool.{not};
 ghost use Prim.Native.Nat.{ℕ, _≤_, _<_};
@@ -19,9 +20,9 @@ ghost use Rattle.laws.specs.Find.{firstIndex, any};
 ghost use Rattle.index.specs.Keys.{foundOf};
 ghost use Rattle.index.specs.Order.{Index};
 ghost use Rattle.record.specs.Says.{tableOf};
-ghost use Rattle.keys.specs.Delivery.{nameAt};
+ghost use Rattle.record.specs.Names.{nameAt};
 ghost use Rattle.keys.specs.Rules.{dangles, mistyped, typedIn};
-ghost use Rattle.keys.specs.Columns.{Fills};
+ghost use Rattle.record.specs.machinery.Columns.{Fills};
 
 // The first record whose field is there at all.
 pub fn first_present(s: &[u8], k: Kind, f: usize) -> Found
@@ -73,14 +74,14 @@ pub fn first_dangling<'a>(
 ) -> Found
     ensures { λ r. ⌜ r ≡ foundOf (firstIndex (λ i. dangles (λ j. nameAt other (tableOf (now («to» .entry)) other) j g) (tableOf (now («to» .entry)) other .count) (nameAt k (tableOf (now (s .entry)) k) i f)) (tableOf (now (s .entry)) k .count)) ⌝ }
 {
-    let mut refs = [0u64; 16384];
+    let mut refs = [0u64; LIMIT];
     let m = fill_names(s, k, f, &mut refs);
-    let mut keys = [0u64; 16384];
+    let mut keys = [0u64; LIMIT];
     let n = fill_names(to, other, g, &mut keys);
     if all_present_in(&refs, m, &keys, n) {
         return Found::Nothing;
     }
-    let mut order = [0usize; 16384];
+    let mut order = [0usize; LIMIT];
     if sort(&keys, &mut order, n) {
         first_unknown(&refs, m, &keys, &order, n)
     } else {
@@ -156,11 +157,11 @@ fn first_mistyped_in<'a>(
 pub fn first_mistyped<'a>(s: &'a [u8], k: Kind, f: usize, cat: &'a [u8], wanted: u8) -> Found
     ensures { λ r. ⌜ r ≡ foundOf (firstIndex (λ i. mistyped wanted (tableOf (now (cat .entry)) Kind.Catalogo) (nameAt k (tableOf (now (s .entry)) k) i f)) (tableOf (now (s .entry)) k .count)) ⌝ }
 {
-    let mut refs = [0u64; 16384];
+    let mut refs = [0u64; LIMIT];
     let m = fill_names(s, k, f, &mut refs);
-    let mut keys = [0u64; 16384];
+    let mut keys = [0u64; LIMIT];
     let n = fill_names(cat, Kind::Catalogo, 1, &mut keys);
-    let mut order = [0usize; 16384];
+    let mut order = [0usize; LIMIT];
     if sort(&keys, &mut order, n) {
         let mut hints = [0u16; 32768];
         fill_hints(&keys, &mut hints, n);

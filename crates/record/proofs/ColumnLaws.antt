@@ -46,7 +46,7 @@ module _ {column : ℕ → ℕ} {n : ℕ} {before out : List ℕ} {i : ℕ} (f :
         rest = λ j lj. getD-set-other out i j x 0 (λ q. omega arith) ∙ f .rest j (omega arith);
       }
 
-  pub filling-all : {m : ℕ} → m ≤ 16384 → n ≤ i → n ≡ m → ReadInto before out column m n
+  pub filling-all : {m : ℕ} → m ≤ limit → n ≤ i → n ≡ m → ReadInto before out column m n
   filling-all small l e =
       record {
         small = small;
@@ -57,8 +57,8 @@ module _ {column : ℕ → ℕ} {n : ℕ} {before out : List ℕ} {i : ℕ} (f :
         rest = λ j lj. f .rest j (omega (arith, f .within));
       }
 
--- ROOM: too short, nothing is read; of 16,384, a table's column always fits
-pub read-none : (column : ℕ → ℕ) {n m : ℕ} (before : List ℕ) → m ≤ 16384 → length before < n → n ≡ m → ReadInto before before column m 0
+-- ROOM: too short, nothing is read; of the limit, a table's column always fits
+pub read-none : (column : ℕ → ℕ) {n m : ℕ} (before : List ℕ) → m ≤ limit → length before < n → n ≡ m → ReadInto before before column m 0
 read-none column before small l e =
     record {
       small = small;
@@ -69,7 +69,7 @@ read-none column before small l e =
       rest = λ j lj. refl;
     }
 
-pub read-fills : {before out : List ℕ} {column : ℕ → ℕ} {n r : ℕ} → length before ≡ 16384 → ReadInto before out column n r → Fills out column n r
+pub read-fills : {before out : List ℕ} {column : ℕ → ℕ} {n r : ℕ} → length before ≡ limit → ReadInto before out column n r → Fills out column n r
 read-fills l f =
     let e = f .fits (omega (arith, f .small, l)) in
     record { count = e; small = f .small; long = f .long ∙ l; holds = λ i li. f .holds i (omega (arith, e)) }

@@ -1,5 +1,6 @@
 pub mod TableLaws
 pub mod PackedLaws
+pub mod FileLaws
 pub mod CutLaws
 pub mod SaysLaws
 pub mod NameLaws

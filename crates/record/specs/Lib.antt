@@ -6,3 +6,4 @@ pub mod Claims
 pub mod machinery
 pub mod Says
 pub mod Names
+pub mod Files

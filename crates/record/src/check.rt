@@ -3,6 +3,7 @@ use crate::cut::record_bytes;
 use crate::cut::records;
 use crate::glance::plainly_lawful;
 use crate::kind::Kind;
+use crate::kind::LIMIT;
 use crate::reason::Break;
 use crate::reason::Finding;
 use crate::reason::Reason;
@@ -111,7 +112,7 @@ pub fn check_shape(s: &[u8], k: Kind) -> Finding
     ensures { λ r. ⌜ r ≡ shapeFinding (now (s .entry)) k ⌝ }
 {
     let n = k.length();
-    if 16384 * n < s.len() {
+    if LIMIT * n < s.len() {
         return Finding::Broken(break_of(Reason::LongFile10, k, 0, 0));
     }
     if 0 < s.len() % n {

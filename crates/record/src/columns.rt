@@ -5,6 +5,7 @@ use crate::cut::record_bytes;
 use crate::cut::records;
 use crate::kind::Form;
 use crate::kind::Kind;
+use crate::kind::LIMIT;
 use field::class::Class;
 use field::class::byte;
 use field::number::get_number;
@@ -13,7 +14,7 @@ ghost use mathlib.Core.Path.{_≡_};
 ghost use mathlib.Core.Bool.{true};
 ghost use mathlib.Core.List.{[]};
 ghost use Prim.Native.Nat.{ℕ, _+_, _<_, _≤_, _^_, _-_};
-ghost use Rattle.record.specs.Table.{formAt, isN};
+ghost use Rattle.record.specs.Table.{formAt, isN, limit};
 ghost use Rattle.record.specs.Cut.{textOf};
 ghost use Rattle.record.specs.Says.{saidIn, saidAs, tableOf, isMissing, numberIn, keyIn, letterIn, placeIn};
 
@@ -137,8 +138,8 @@ pub fn letter(s: &[u8], k: Kind, i: usize, f: usize) -> u8
 // How many records the file's table has: its whole records, up to the limit.
 pub fn rows(s: &[u8], k: Kind) -> usize
     ensures { λ r. ⌜ r ≡ tableOf (now (s .entry)) k .count ⌝ }
-    ensures small { λ r. ⌜ r ≤ 16384 ⌝ }
+    ensures small { λ r. ⌜ r ≤ limit ⌝ }
 {
     let n = records(s, k);
-    if 16384 < n { 16384 } else { n }
+    if LIMIT < n { LIMIT } else { n }
 }

@@ -3,6 +3,7 @@
 pub mod check;
 pub mod columns;
 pub mod cut;
+pub mod files;
 pub mod fill;
 mod glance;
 pub mod kind;

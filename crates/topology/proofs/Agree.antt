@@ -4,7 +4,8 @@
 use Prim.Native.Nat.{ℕ}
 use mathlib.Core.Path.{_≡_, refl, sym, ap, ap₂, _∙_}
 use Rattle.record.specs.declared.kind.Kind.{Kind}
-use Rattle.keys.specs.Delivery.{Delivery, nameAt, keyOf}
+use Rattle.record.specs.Files.{Delivery}
+use Rattle.record.specs.Names.{nameAt, keyOf}
 use Rattle.keys.specs.Groups.{Tests, Reasons, groupFinding, brokenBy, overFiles}
 use Rattle.keys.proofs.Agree.{Agrees, struck, struck-same}
 use Rattle.topology.specs.Rules.{placed, nodeIn, meets, breaks50, breaks51, startElsewhere, breaks52, endElsewhere, breaks53, samePlace, placedBefore, breaks54, pointElsewhere, breaks55, nodeUsed, breaks56, objectIdle, breaks57, breaks59, fifties, fiftyReasons}

@@ -3,7 +3,7 @@
 -- Assumes nothing.
 use Prim.Native.Nat.{ℕ, zero, suc, _<_, _≤_, _^_, max}
 use mathlib.Core.Bool.{Bool, true, false, not, _&&_}
-use mathlib.Core.List.{List, []}
+use mathlib.Core.List.{List}
 use mathlib.Core.Path.{_≡_, refl, sym, subst, ap, _∙_}
 use mathlib.Core.Logic.{_⊎_, ⊎-elim}
 use native.Mathlib.Nat.{max-le, le-max-left, le-max-right, le-trans, eq-or-lt-of-le, le-of-suc-le-suc}
@@ -19,22 +19,19 @@ use Rattle.index.specs.Look.{Sought, lineOf, HighestIn}
 use Rattle.index.specs.declared.Found.{Found}
 use Rattle.index.specs.declared.Found.the-variants.{At, Nothing}
 use Rattle.index.proofs.LookLaws.{sought-record, sought-yes, sought-none}
-use Rattle.record.specs.declared.kind.Kind.the-variants.{ObPun, Tramo, Vertice, Nodo}
+use Rattle.record.specs.declared.kind.Kind.the-variants.{ObPun, Tramo, Vertice}
 use Rattle.record.specs.Table.{colAt, formAt, isN}
-use Rattle.keys.specs.Columns.{Fills}
-use Rattle.keys.specs.Delivery.{Delivery, filesOf, deliveryOf, nameAt}
+use Rattle.record.specs.Says.{Table}
+use Rattle.record.specs.machinery.Columns.{Fills}
+use Rattle.record.specs.Names.{nameAt, keyOf}
 use Rattle.keys.proofs.ReferLaws.{names-column}
 use Rattle.topology.specs.declared.ends.End.{End}
 use Rattle.topology.specs.declared.ends.End.the-variants.{Start, Last}
 use Rattle.topology.specs.Ends.{nodeField, endKey, apart}
-use Rattle.topology.specs.Rules.{xAt, yAt, nodeIn, vertex, highestIn, meets, elsewhere, startElsewhere, endElsewhere, pointElsewhere}
+use Rattle.topology.specs.Rules.{xAt, yAt, nodeIn, highestIn, meets, elsewhere, startElsewhere, endElsewhere, pointElsewhere}
 
 here-or : (n : ℕ) {k : ℕ} → k < suc n → (k ≡ n) ⊎ (k < n)
 here-or n l = eq-or-lt-of-le (le-of-suc-le-suc l)
-
--- what these three files say alone
-abbrev pub endFiles : List ℕ → List ℕ → List ℕ → Delivery
-endFiles tramo vertice nodo = deliveryOf (filesOf [] [] [] [] tramo vertice nodo)
 
 -- THE HIGHEST of a line: no key of the line is greater, and it is no greater than what is no less than each of them
 module _ (key : ℕ → ℕ) (line : ℕ) where
@@ -93,56 +90,57 @@ unfolding formAt colAt
 line-narrow h = h refl refl
 
 -- MEETING: vertex j has the key, and the node that has the name is there
-unfoldable pub meetsAt : Delivery → ℕ → ℕ → ℕ → Bool
-meetsAt d key name j = eqb (vertex d j) key && nodeIn (d Nodo) name (xAt Vertice (d Vertice) j) (yAt Vertice (d Vertice) j)
+unfoldable pub meetsAt : Table → Table → ℕ → ℕ → ℕ → Bool
+meetsAt vertices nodes key name j = eqb (keyOf Vertice vertices j) key && nodeIn nodes name (xAt Vertice vertices j) (yAt Vertice vertices j)
 
-pub meets-any : (d : Delivery) (key name : ℕ) {r : Bool} → r ≡ any (meetsAt d key name) (d Vertice .count) → r ≡ meets d key name
-unfolding meets meetsAt
-meets-any d key name e = e
+module _ (vertices nodes : Table) (key name : ℕ) where
+  pub meets-any : {r : Bool} → r ≡ any (meetsAt vertices nodes key name) (vertices .count) → r ≡ meets vertices nodes key name
+  unfolding meets meetsAt
+  meets-any e = e
 
-module _ (d : Delivery) (key name j : ℕ) where
-  pub meets-other : {v : ℕ} → v ≡ vertex d j → (v ≡ key → ⊥) → meetsAt d key name j ≡ false
-  unfolding meetsAt
-  meets-other e h = rw (← e, ne-eqb _ _ h)
+  module _ (j : ℕ) {v : ℕ} (e : v ≡ keyOf Vertice vertices j) where
+    pub meets-other : (v ≡ key → ⊥) → meetsAt vertices nodes key name j ≡ false
+    unfolding meetsAt
+    meets-other h = rw (← e, ne-eqb _ _ h)
 
-  pub meets-key :
-      {v x y : ℕ} {r : Bool} → v ≡ vertex d j → v ≡ key → x ≡ xAt Vertice (d Vertice) j → y ≡ yAt Vertice (d Vertice) j → r ≡ nodeIn (d Nodo) name x y
-      → meetsAt d key name j ≡ r
-  unfolding meetsAt
-  meets-key e h p q s = rw (← e, eq-eqb _ _ h, ← p, ← q, s)
+    pub meets-key : {x y : ℕ} {r : Bool} → v ≡ key → x ≡ xAt Vertice vertices j → y ≡ yAt Vertice vertices j → r ≡ nodeIn nodes name x y
+        → meetsAt vertices nodes key name j ≡ r
+    unfolding meetsAt
+    meets-key h p q s = rw (← e, eq-eqb _ _ h, ← p, ← q, s)
 
--- ELSEWHERE, where f is what a look-up of the vertex says
-module _ (d : Delivery) {keys : List ℕ} {n : ℕ} (fills : Fills keys (vertex d) (d Vertice .count) n) (key name : ℕ) {f : Found} (s : Sought keys n key f) where
-  pub elsewhere-none : f ≡ Nothing → false ≡ elsewhere d key name
-  elsewhere-none e = rw (← names-column fills key, ← sought-none keys n key s e)
+  -- ELSEWHERE, where f is what a look-up of the vertex says
+  module _ {keys : List ℕ} {n : ℕ} (fills : Fills keys (keyOf Vertice vertices) (vertices .count) n) {f : Found} (s : Sought keys n key f) where
+    pub elsewhere-none : f ≡ Nothing → false ≡ elsewhere vertices nodes key name
+    elsewhere-none e = rw (← names-column fills key, ← sought-none keys n key s e)
 
-  pub elsewhere-found : {j : ℕ} {r : Bool} → f ≡ At j → r ≡ meets d key name → not r ≡ elsewhere d key name
-  elsewhere-found e h = rw (← names-column fills key, ← sought-yes keys n key s e, h)
+    pub elsewhere-found : {j : ℕ} {r : Bool} → f ≡ At j → r ≡ meets vertices nodes key name → not r ≡ elsewhere vertices nodes key name
+    elsewhere-found e h = rw (← names-column fills key, ← sought-yes keys n key s e, h)
 
-  pub elsewhere-met :
-      {j x y : ℕ} {r : Bool} → f ≡ At j → x ≡ xAt Vertice (d Vertice) j → y ≡ yAt Vertice (d Vertice) j → r ≡ nodeIn (d Nodo) name x y → r ≡ true
-      → false ≡ elsewhere d key name
-  elsewhere-met {j} e p q h t =
-      let at = sought-record keys n key s e in
-      let u : j < d Vertice .count = omega (arith, fills .count) in
-      elsewhere-found e (meets-any d key name (sym (any-true _ _ u (meets-key d key name j (fills .holds j u) (at .1) p q h ∙ t))))
+    pub elsewhere-met :
+        {j x y : ℕ} {r : Bool} → f ≡ At j → x ≡ xAt Vertice vertices j → y ≡ yAt Vertice vertices j → r ≡ nodeIn nodes name x y → r ≡ true
+        → false ≡ elsewhere vertices nodes key name
+    elsewhere-met {j} e p q h t =
+        let at = sought-record keys n key s e in
+        let u : j < vertices .count = omega (arith, fills .count) in
+        elsewhere-found e (meets-any (sym (any-true _ _ u (meets-key j (fills .holds j u) (at .1) p q h ∙ t))))
 
 -- AN END of tramo i, from what the code reads of it
 pub apart-said :
-    (end : End) (d : Delivery) {keys : List ℕ} {n : ℕ} → Fills keys (vertex d) (d Vertice .count) n → (i : ℕ) {line key field name : ℕ} {r : Bool}
-    → line ≡ nameAt Tramo (d Tramo) i 4 → key ≡ endKey end (listed keys) n line → field ≡ nodeField end → name ≡ nameAt Tramo (d Tramo) i field
-    → r ≡ elsewhere d key name → apart end d i ≡ r
+    (end : End) (tramos vertices nodes : Table) {keys : List ℕ} {n : ℕ} → Fills keys (keyOf Vertice vertices) (vertices .count) n
+    → (i : ℕ) {line key field name : ℕ} {r : Bool}
+    → line ≡ nameAt Tramo tramos i 4 → key ≡ endKey end (listed keys) n line → field ≡ nodeField end → name ≡ nameAt Tramo tramos i field
+    → r ≡ elsewhere vertices nodes key name → apart end tramos vertices nodes i ≡ r
 unfolding startElsewhere endElsewhere
-apart-said Start d fills i a b c p h = rw (h, b, a, p, c)
-apart-said Last d fills i a b c p h = rw (h, b, a, p, c, highest-column fills _)
+apart-said Start tramos vertices nodes fills i a b c p h = rw (h, b, a, p, c)
+apart-said Last tramos vertices nodes fills i a b c p h = rw (h, b, a, p, c, highest-column fills _)
 
 -- A POINT OBJECT, from the name w that the code reads of it
-module _ (d : Delivery) (i : ℕ) {w : ℕ} (e : w ≡ nameAt ObPun (d ObPun) i 3) where
-  pub astray-free : w ≡ 0 → pointElsewhere d i ≡ false
+module _ (points nodes : Table) (i : ℕ) {w : ℕ} (e : w ≡ nameAt ObPun points i 3) where
+  pub astray-free : w ≡ 0 → pointElsewhere points nodes i ≡ false
   unfolding pointElsewhere
   astray-free h = rw (← e, eq-eqb _ _ h)
 
   pub astray-named :
-      {x y : ℕ} {r : Bool} → (w ≡ 0 → ⊥) → x ≡ xAt ObPun (d ObPun) i → y ≡ yAt ObPun (d ObPun) i → r ≡ nodeIn (d Nodo) w x y → pointElsewhere d i ≡ not r
+      {x y : ℕ} {r : Bool} → (w ≡ 0 → ⊥) → x ≡ xAt ObPun points i → y ≡ yAt ObPun points i → r ≡ nodeIn nodes w x y → pointElsewhere points nodes i ≡ not r
   unfolding pointElsewhere
   astray-named h p q s = rw (← e, ne-eqb _ _ h, ← p, ← q, s)

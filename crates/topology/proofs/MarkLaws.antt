@@ -14,7 +14,7 @@ use Rattle.laws.proofs.FindLaws.{index-same}
 use Rattle.index.specs.Keys.{foundOf}
 use Rattle.index.specs.Order.{Index, Sorts}
 use Rattle.index.specs.declared.Found.{Found}
-use Rattle.keys.specs.Columns.{Fills}
+use Rattle.record.specs.machinery.Columns.{Fills}
 use Rattle.keys.proofs.ReferLaws.{fills-room}
 use Rattle.topology.specs.Places.{Marks}
 

@@ -15,7 +15,7 @@ use Rattle.record.specs.declared.reason.Break.{Break}
 use Rattle.record.specs.declared.reason.Finding.the-variants.{Broken}
 use Rattle.record.specs.Breaks.{numberOf}
 use Rattle.record.specs.Claims.{MeansBy}
-use Rattle.keys.specs.Delivery.{Delivery}
+use Rattle.record.specs.Files.{Delivery}
 use Rattle.keys.proofs.GroupMeaning.{Numbered, group-means}
 use Rattle.keys.proofs.Shown.{ShownBy, group-shown}
 use Rattle.topology.specs.Rules.{fifties, fiftyReasons}

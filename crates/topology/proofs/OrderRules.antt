@@ -10,7 +10,7 @@ use Rattle.laws.specs.Find.{firstIndex, names}
 use Rattle.laws.proofs.FindLaws.{index-same}
 use Rattle.index.specs.Keys.{listed, foundOf}
 use Rattle.index.specs.declared.Found.{Found}
-use Rattle.keys.specs.Columns.{Fills}
+use Rattle.record.specs.machinery.Columns.{Fills}
 use Rattle.keys.proofs.ReferLaws.{names-column}
 use Rattle.topology.specs.Rules.{orderOf, gap, alone}
 

@@ -21,7 +21,7 @@ use Rattle.index.proofs.LookLaws.{sought-record, sought-none}
 use Rattle.index.proofs.TwiceLaws.{no-pair}
 use Rattle.record.specs.declared.kind.Kind.the-variants.{Nodo}
 use Rattle.record.specs.Says.{Table}
-use Rattle.keys.specs.Columns.{Fills}
+use Rattle.record.specs.machinery.Columns.{Fills}
 use Rattle.keys.specs.Rules.{repeats}
 use Rattle.keys.proofs.ReferLaws.{names-column}
 use Rattle.keys.proofs.FoundLaws.{any-of-nothing}

@@ -3,7 +3,8 @@
 use Prim.Native.Nat.{ℕ}
 use mathlib.Core.Bool.{Bool}
 use Rattle.record.specs.declared.kind.Kind.the-variants.{Vertice}
-use Rattle.keys.specs.Delivery.{Delivery, vertexKey}
+use Rattle.record.specs.Says.{Table}
+use Rattle.record.specs.Names.{vertexKey}
 use Rattle.topology.specs.declared.ends.End.{End}
 use Rattle.topology.specs.declared.ends.End.the-variants.{Start, Last}
 use Rattle.topology.specs.Rules.{highestIn, startElsewhere, endElsewhere}
@@ -19,6 +20,6 @@ endKey Start key n line = vertexKey line 1
 endKey Last key n line = highestIn key line n
 
 -- the rule of that end
-abbrev pub apart : End → Delivery → ℕ → Bool
-apart Start d i = startElsewhere d i
-apart Last d i = endElsewhere d i
+abbrev pub apart : End → Table → Table → Table → ℕ → Bool
+apart Start tramos vertices nodes i = startElsewhere tramos vertices nodes i
+apart Last tramos vertices nodes i = endElsewhere tramos vertices nodes i

@@ -7,7 +7,7 @@ use lib.Dec.{eqb}
 use Rattle.laws.specs.Row.{pick}
 use Rattle.record.specs.declared.kind.Kind.{Kind}
 use Rattle.record.specs.declared.reason.Finding.{Finding}
-use Rattle.keys.specs.Delivery.{Delivery}
+use Rattle.record.specs.Files.{Delivery}
 use Rattle.keys.specs.Groups.{Tests, groupFinding, brokenBy, overFiles}
 use Rattle.topology.specs.Rules.{fifties, fiftyReasons}
 

@@ -15,7 +15,8 @@ use Rattle.record.specs.declared.reason.Reason.{Reason}
 use Rattle.record.specs.declared.reason.Reason.the-variants as R
 use Rattle.record.specs.Table.{fileOf}
 use Rattle.record.specs.Says.{Table, placeIn}
-use Rattle.keys.specs.Delivery.{Delivery, nameAt, vertexKey, keyOf}
+use Rattle.record.specs.Files.{Delivery}
+use Rattle.record.specs.Names.{nameAt, vertexKey, keyOf}
 use Rattle.keys.specs.Rules.{orFirst}
 
 -- the rule is read of this file at this field
@@ -54,70 +55,67 @@ nodeIn t name x y = any (λ j. eqb (nameAt Nodo t j 1) name && (eqb (xAt Nodo t 
 abbrev pub orderOf : ℕ → ℕ
 orderOf key = key % 100000
 
-abbrev pub vertex : Delivery → ℕ → ℕ
-vertex d j = keyOf Vertice (d Vertice) j
-
-abbrev pub hasVertex : Delivery → ℕ → Bool
-hasVertex d key = names (vertex d) (d Vertice .count) key
+abbrev pub hasVertex : Table → ℕ → Bool
+hasVertex vertices key = names (keyOf Vertice vertices) (vertices .count) key
 
 -- the key of the line's vertex of highest order among the first n; 0 where it has none
 unfoldable pub highestIn : (ℕ → ℕ) → ℕ → ℕ → ℕ
 highestIn key line zero = 0
 highestIn key line (suc n) = pick (eqb (lineOf (key n)) line) (max (key n) (highestIn key line n)) (highestIn key line n)
 
-abbrev pub highest : Delivery → ℕ → ℕ
-highest d line = highestIn (vertex d) line (d Vertice .count)
+abbrev pub highest : Table → ℕ → ℕ
+highest vertices line = highestIn (keyOf Vertice vertices) line (vertices .count)
 
 -- a vertex that has the key is where the node that has the name is, in X and Y
-unfoldable pub meets : Delivery → ℕ → ℕ → Bool
-meets d key name =
-    any (λ j. eqb (vertex d j) key && nodeIn (d Nodo) name (xAt Vertice (d Vertice) j) (yAt Vertice (d Vertice) j)) (d Vertice .count)
+unfoldable pub meets : Table → Table → ℕ → ℕ → Bool
+meets vertices nodes key name =
+    any (λ j. eqb (keyOf Vertice vertices j) key && nodeIn nodes name (xAt Vertice vertices j) (yAt Vertice vertices j)) (vertices .count)
 
 -- the vertex that has the key exists and lies elsewhere than the node. (Where no lower ten is broken, keys are unique and there is one
 -- such vertex and one such node.)
-abbrev pub elsewhere : Delivery → ℕ → ℕ → Bool
-elsewhere d key name = hasVertex d key && not (meets d key name)
+abbrev pub elsewhere : Table → Table → ℕ → ℕ → Bool
+elsewhere vertices nodes key name = hasVertex vertices key && not (meets vertices nodes key name)
 
 -- a tramo's line, nodes and object
-abbrev pub tramoLine : Delivery → ℕ → ℕ
-tramoLine d i = nameAt Tramo (d Tramo) i 4
+abbrev pub tramoLine : Table → ℕ → ℕ
+tramoLine tramos i = nameAt Tramo tramos i 4
 
-abbrev pub tramoStart : Delivery → ℕ → ℕ
-tramoStart d i = nameAt Tramo (d Tramo) i 6
+abbrev pub tramoStart : Table → ℕ → ℕ
+tramoStart tramos i = nameAt Tramo tramos i 6
 
-abbrev pub tramoEnd : Delivery → ℕ → ℕ
-tramoEnd d i = nameAt Tramo (d Tramo) i 7
+abbrev pub tramoEnd : Table → ℕ → ℕ
+tramoEnd tramos i = nameAt Tramo tramos i 7
 
-abbrev pub tramoObject : Delivery → ℕ → ℕ
-tramoObject d i = nameAt Tramo (d Tramo) i 2
+abbrev pub tramoObject : Table → ℕ → ℕ
+tramoObject tramos i = nameAt Tramo tramos i 2
 
 -- 50: VERTICE order is 0, or is over 1 and its line has no order one less
 unfoldable pub gap : (ℕ → ℕ) → ℕ → ℕ → Bool
 gap key n i = eqb (orderOf (key i)) 0 || ltb 1 (orderOf (key i)) && not (names key n (key i - 1))
 
 unfoldable pub breaks50 : Delivery → Kind → ℕ → ℕ → Bool
-breaks50 d k i f = isAt Vertice 2 k f && gap (vertex d) (d Vertice .count) i
+breaks50 d k i f = isAt Vertice 2 k f && gap (keyOf Vertice (d Vertice)) (d Vertice .count) i
 
 -- 51: VERTICE order 1 and its line has no order 2
 unfoldable pub alone : (ℕ → ℕ) → ℕ → ℕ → Bool
 alone key n i = eqb (orderOf (key i)) 1 && not (names key n (key i + 1))
 
 unfoldable pub breaks51 : Delivery → Kind → ℕ → ℕ → Bool
-breaks51 d k i f = isAt Vertice 2 k f && alone (vertex d) (d Vertice .count) i
+breaks51 d k i f = isAt Vertice 2 k f && alone (keyOf Vertice (d Vertice)) (d Vertice .count) i
 
 -- 52: line's vertex of order 1 exists and lies elsewhere in X or Y than the start node
-unfoldable pub startElsewhere : Delivery → ℕ → Bool
-startElsewhere d i = elsewhere d (vertexKey (tramoLine d i) 1) (tramoStart d i)
+unfoldable pub startElsewhere : Table → Table → Table → ℕ → Bool
+startElsewhere tramos vertices nodes i = elsewhere vertices nodes (vertexKey (tramoLine tramos i) 1) (tramoStart tramos i)
 
 unfoldable pub breaks52 : Delivery → Kind → ℕ → ℕ → Bool
-breaks52 d k i f = isAt Tramo 6 k f && startElsewhere d i
+breaks52 d k i f = isAt Tramo 6 k f && startElsewhere (d Tramo) (d Vertice) (d Nodo) i
 
 -- 53: line's vertex of highest order lies elsewhere in X or Y than the end node
-unfoldable pub endElsewhere : Delivery → ℕ → Bool
-endElsewhere d i = elsewhere d (highest d (tramoLine d i)) (tramoEnd d i)
+unfoldable pub endElsewhere : Table → Table → Table → ℕ → Bool
+endElsewhere tramos vertices nodes i = elsewhere vertices nodes (highest vertices (tramoLine tramos i)) (tramoEnd tramos i)
 
 unfoldable pub breaks53 : Delivery → Kind → ℕ → ℕ → Bool
-breaks53 d k i f = isAt Tramo 7 k f && endElsewhere d i
+breaks53 d k i f = isAt Tramo 7 k f && endElsewhere (d Tramo) (d Vertice) (d Nodo) i
 
 -- 54: same X, Y, Z as an earlier node; missing Z equals only missing Z
 unfoldable pub samePlace : Table → ℕ → ℕ → Bool
@@ -130,35 +128,34 @@ unfoldable pub breaks54 : Delivery → Kind → ℕ → ℕ → Bool
 breaks54 d k i f = isAt Nodo 0 k f && placedBefore (d Nodo) i
 
 -- 55: point object names a node and differs from it in X or Y
-unfoldable pub pointElsewhere : Delivery → ℕ → Bool
-pointElsewhere d i =
-    not (eqb (nameAt ObPun (d ObPun) i 3) 0)
-    && not (nodeIn (d Nodo) (nameAt ObPun (d ObPun) i 3) (xAt ObPun (d ObPun) i) (yAt ObPun (d ObPun) i))
+unfoldable pub pointElsewhere : Table → Table → ℕ → Bool
+pointElsewhere points nodes i =
+    not (eqb (nameAt ObPun points i 3) 0) && not (nodeIn nodes (nameAt ObPun points i 3) (xAt ObPun points i) (yAt ObPun points i))
 
 unfoldable pub breaks55 : Delivery → Kind → ℕ → ℕ → Bool
-breaks55 d k i f = isAt ObPun 3 k f && pointElsewhere d i
+breaks55 d k i f = isAt ObPun 3 k f && pointElsewhere (d ObPun) (d Nodo) i
 
 -- 56: node starts or ends no tramo, has the X and Y of no vertex, and is named by no point object
-unfoldable pub nodeUsed : Delivery → ℕ → Bool
-nodeUsed d i =
-    names (tramoStart d) (d Tramo .count) (nameAt Nodo (d Nodo) i 1)
-    || (names (tramoEnd d) (d Tramo .count) (nameAt Nodo (d Nodo) i 1)
-    || (placed Vertice (d Vertice) (d Vertice .count) (xAt Nodo (d Nodo) i) (yAt Nodo (d Nodo) i)
-    || names (λ j. nameAt ObPun (d ObPun) j 3) (d ObPun .count) (nameAt Nodo (d Nodo) i 1)))
+unfoldable pub nodeUsed : Table → Table → Table → Table → ℕ → Bool
+nodeUsed points tramos vertices nodes i =
+    names (tramoStart tramos) (tramos .count) (nameAt Nodo nodes i 1)
+    || (names (tramoEnd tramos) (tramos .count) (nameAt Nodo nodes i 1)
+    || (placed Vertice vertices (vertices .count) (xAt Nodo nodes i) (yAt Nodo nodes i)
+    || names (λ j. nameAt ObPun points j 3) (points .count) (nameAt Nodo nodes i 1)))
 
 unfoldable pub breaks56 : Delivery → Kind → ℕ → ℕ → Bool
-breaks56 d k i f = isAt Nodo 0 k f && not (nodeUsed d i)
+breaks56 d k i f = isAt Nodo 0 k f && not (nodeUsed (d ObPun) (d Tramo) (d Vertice) (d Nodo) i)
 
 -- 57: linear object named by no tramo
-unfoldable pub objectIdle : Delivery → ℕ → Bool
-objectIdle d i = not (names (tramoObject d) (d Tramo .count) (nameAt ObLin (d ObLin) i 1))
+unfoldable pub objectIdle : Table → Table → ℕ → Bool
+objectIdle objects tramos i = not (names (tramoObject tramos) (tramos .count) (nameAt ObLin objects i 1))
 
 unfoldable pub breaks57 : Delivery → Kind → ℕ → ℕ → Bool
-breaks57 d k i f = isAt ObLin 0 k f && objectIdle d i
+breaks57 d k i f = isAt ObLin 0 k f && objectIdle (d ObLin) (d Tramo) i
 
 -- 59: tramo whose line has no vertex of highest order
 unfoldable pub breaks59 : Delivery → Kind → ℕ → ℕ → Bool
-breaks59 d k i f = isAt Tramo 4 k f && eqb (highest d (tramoLine d i)) 0
+breaks59 d k i f = isAt Tramo 4 k f && eqb (highest (d Vertice) (tramoLine (d Tramo) i)) 0
 
 -- the tests of a place, in the order of the reasons; there is no 58 in the base
 unfoldable pub fifties : Delivery → Kind → ℕ → ℕ → List Bool
@@ -176,16 +173,19 @@ fifties d k i f =
     ∷ []
 
 -- the reasons; 54's with the number of the first earlier node at the place. What stands in 58's place is never shown
-unfoldable pub fiftyReasons : Delivery → Kind → ℕ → ℕ → List Reason
-fiftyReasons d k i f =
+abbrev pub reasonsAt : Table → ℕ → List Reason
+reasonsAt nodes i =
     R.OrderGap50
     ∷ R.OrderAlone51
     ∷ R.StartElsewhere52
     ∷ R.EndElsewhere53
-    ∷ R.SamePlace54 (suc (orFirst (firstIndex (samePlace (d Nodo) i) i)))
+    ∷ R.SamePlace54 (suc (orFirst (firstIndex (samePlace nodes i) i)))
     ∷ R.PointElsewhere55
     ∷ R.IdleNode56
     ∷ R.IdleObject57
     ∷ R.LongFile10
     ∷ R.NoLastVertex59
     ∷ []
+
+unfoldable pub fiftyReasons : Delivery → Kind → ℕ → ℕ → List Reason
+fiftyReasons d k i f = reasonsAt (d Nodo) i

@@ -8,15 +8,15 @@ use index::hint::fill_hints;
 use index::hint::find_hinted;
 use index::look::highest_in;
 use index::order::sort;
-use keys::column::fill_keys;
-use keys::column::fill_names;
-use keys::names::name;
-use keys::names::record_key;
 use record::columns::rows;
+use record::fill::fill_keys;
+use record::fill::fill_names;
 use record::kind::Kind;
+use record::names::name;
+use record::names::record_key;
 ghost use mathlib.Core.Path.{_≡_};
 ghost use mathlib.Core.Bool.{not, _&&_};
-ghost use mathlib.Core.List.{List, []};
+ghost use mathlib.Core.List.{List};
 ghost use Prim.Native.Nat.{ℕ, _+_, _*_, _≤_, _<_, _^_};
 ghost use lib.Dec.{eqb};
 ghost use lib.ListN.{length, getD};
@@ -24,14 +24,14 @@ ghost use Rattle.laws.specs.Find.{firstIndex};
 ghost use Rattle.index.specs.Keys.{foundOf};
 ghost use Rattle.index.specs.Order.{Index};
 ghost use Rattle.record.specs.Says.{tableOf};
-ghost use Rattle.keys.specs.Columns.{Fills};
-ghost use Rattle.keys.specs.Delivery.{filesOf, deliveryOf, nameAt, keyOf};
+ghost use Rattle.record.specs.machinery.Columns.{Fills};
+ghost use Rattle.record.specs.Names.{nameAt, keyOf};
 ghost use Rattle.topology.specs.Ends.{nodeField, endKey, apart};
-ghost use Rattle.topology.specs.Rules.{meets, elsewhere, highest, startElsewhere, endElsewhere, pointElsewhere, tramoLine, highestIn};
+ghost use Rattle.topology.specs.Rules.{meets, elsewhere, highest, pointElsewhere, tramoLine, highestIn};
 
 // Whether a vertex with the key is where a node with the name is, by scanning.
 fn scan_meets<'a>(vertice: &'a [u8], nodo: &'a [u8], key: u64, wanted: u64) -> bool
-    ensures { λ r. ⌜ r ≡ meets (deliveryOf (filesOf [] [] [] [] [] (now (vertice .entry)) (now (nodo .entry)))) key wanted ⌝ }
+    ensures { λ r. ⌜ r ≡ meets (tableOf (now (vertice .entry)) Kind.Vertice) (tableOf (now (nodo .entry)) Kind.Nodo) key wanted ⌝ }
 {
     let n = rows(vertice, Kind::Vertice);
     let mut j = 0;
@@ -68,7 +68,7 @@ fn is_elsewhere<'a>(
     wanted: u64,
 ) -> bool
     requires { ⌜ Index (now keys) (now order) n × Fills (now keys) (keyOf Kind.Vertice (tableOf (now vertice) Kind.Vertice)) (tableOf (now vertice) Kind.Vertice .count) n × Index (now ids) (now ranks) m × Fills (now ids) (λ j. nameAt Kind.Nodo (tableOf (now nodo) Kind.Nodo) j 1) (tableOf (now nodo) Kind.Nodo .count) m ⌝ }
-    ensures { λ r. ⌜ r ≡ elsewhere (deliveryOf (filesOf [] [] [] [] [] (now (vertice .entry)) (now (nodo .entry)))) key wanted ⌝ }
+    ensures { λ r. ⌜ r ≡ elsewhere (tableOf (now (vertice .entry)) Kind.Vertice) (tableOf (now (nodo .entry)) Kind.Nodo) key wanted ⌝ }
 {
     let found = find_hinted(keys, order, vertices, n, key);
     match found {
@@ -142,7 +142,7 @@ fn first_apart<'a>(
     m: usize,
 ) -> Found
     requires { ⌜ Index (now keys) (now order) n × Fills (now keys) (keyOf Kind.Vertice (tableOf (now vertice) Kind.Vertice)) (tableOf (now vertice) Kind.Vertice .count) n × Index (now ids) (now ranks) m × Fills (now ids) (λ j. nameAt Kind.Nodo (tableOf (now nodo) Kind.Nodo) j 1) (tableOf (now nodo) Kind.Nodo .count) m ⌝ }
-    ensures { λ r. ⌜ r ≡ foundOf (firstIndex (apart end (deliveryOf (filesOf [] [] [] [] (now (tramo .entry)) (now (vertice .entry)) (now (nodo .entry))))) (tableOf (now (tramo .entry)) Kind.Tramo .count)) ⌝ }
+    ensures { λ r. ⌜ r ≡ foundOf (firstIndex (apart end (tableOf (now (tramo .entry)) Kind.Tramo) (tableOf (now (vertice .entry)) Kind.Vertice) (tableOf (now (nodo .entry)) Kind.Nodo)) (tableOf (now (tramo .entry)) Kind.Tramo .count)) ⌝ }
 {
     let t = rows(tramo, Kind::Tramo);
     let mut i = 0;
@@ -178,7 +178,7 @@ pub(crate) fn first_elsewhere<'a>(
     vertice: &'a [u8],
     nodo: &'a [u8],
 ) -> Found
-    ensures { λ r. ⌜ r ≡ foundOf (firstIndex (apart end (deliveryOf (filesOf [] [] [] [] (now (tramo .entry)) (now (vertice .entry)) (now (nodo .entry))))) (tableOf (now (tramo .entry)) Kind.Tramo .count)) ⌝ }
+    ensures { λ r. ⌜ r ≡ foundOf (firstIndex (apart end (tableOf (now (tramo .entry)) Kind.Tramo) (tableOf (now (vertice .entry)) Kind.Vertice) (tableOf (now (nodo .entry)) Kind.Nodo)) (tableOf (now (tramo .entry)) Kind.Tramo .count)) ⌝ }
 {
     let mut keys = [0u64; 16384];
     let n = fill_keys(vertice, Kind::Vertice, &mut keys);
@@ -213,7 +213,7 @@ pub(crate) fn first_elsewhere<'a>(
 // The first tramo whose line has no highest vertex, with the vertices in hand.
 fn first_endless_in<'a>(tramo: &'a [u8], keys: &'a [u64], order: &'a [usize], n: usize) -> Found
     requires { ⌜ Index (now keys) (now order) n ⌝ }
-    ensures { λ r. ⌜ r ≡ foundOf (firstIndex (λ i. eqb (highestIn (λ j. getD (now (keys .entry)) j 0) (nameAt Kind.Tramo (tableOf (now (tramo .entry)) Kind.Tramo) i 4) n) 0) (tableOf (now (tramo .entry)) Kind.Tramo .count)) ⌝ }
+    ensures { λ r. ⌜ r ≡ foundOf (firstIndex (λ i. eqb (highestIn (λ j. getD (now (keys .entry)) j 0) (tramoLine (tableOf (now (tramo .entry)) Kind.Tramo) i) n) 0) (tableOf (now (tramo .entry)) Kind.Tramo .count)) ⌝ }
 {
     let t = rows(tramo, Kind::Tramo);
     let mut i = 0;
@@ -228,7 +228,7 @@ fn first_endless_in<'a>(tramo: &'a [u8], keys: &'a [u64], order: &'a [usize], n:
 
 // 59: the first tramo whose line has no vertex of highest order.
 pub(crate) fn first_endless<'a>(tramo: &'a [u8], vertice: &'a [u8]) -> Found
-    ensures { λ r. ⌜ r ≡ foundOf (firstIndex (λ i. eqb (highestIn (keyOf Kind.Vertice (tableOf (now (vertice .entry)) Kind.Vertice)) (nameAt Kind.Tramo (tableOf (now (tramo .entry)) Kind.Tramo) i 4) (tableOf (now (vertice .entry)) Kind.Vertice .count)) 0) (tableOf (now (tramo .entry)) Kind.Tramo .count)) ⌝ }
+    ensures { λ r. ⌜ r ≡ foundOf (firstIndex (λ i. eqb (highest (tableOf (now (vertice .entry)) Kind.Vertice) (tramoLine (tableOf (now (tramo .entry)) Kind.Tramo) i)) 0) (tableOf (now (tramo .entry)) Kind.Tramo .count)) ⌝ }
 {
     let mut keys = [0u64; 16384];
     let n = fill_keys(vertice, Kind::Vertice, &mut keys);
@@ -250,7 +250,7 @@ fn first_astray_in<'a>(
     m: usize,
 ) -> Found
     requires { ⌜ Index (now ids) (now ranks) m × Fills (now ids) (λ j. nameAt Kind.Nodo (tableOf (now nodo) Kind.Nodo) j 1) (tableOf (now nodo) Kind.Nodo .count) m ⌝ }
-    ensures { λ r. ⌜ r ≡ foundOf (firstIndex (pointElsewhere (deliveryOf (filesOf [] (now («ob_pun» .entry)) [] [] [] [] (now (nodo .entry))))) (tableOf (now («ob_pun» .entry)) Kind.ObPun .count)) ⌝ }
+    ensures { λ r. ⌜ r ≡ foundOf (firstIndex (pointElsewhere (tableOf (now («ob_pun» .entry)) Kind.ObPun) (tableOf (now (nodo .entry)) Kind.Nodo)) (tableOf (now («ob_pun» .entry)) Kind.ObPun .count)) ⌝ }
 {
     let n = rows(ob_pun, Kind::ObPun);
     let mut i = 0;
@@ -270,7 +270,7 @@ fn first_astray_in<'a>(
 
 // 55: the first point object that names a node and lies elsewhere.
 pub(crate) fn first_astray<'a>(ob_pun: &'a [u8], nodo: &'a [u8]) -> Found
-    ensures { λ r. ⌜ r ≡ foundOf (firstIndex (pointElsewhere (deliveryOf (filesOf [] (now («ob_pun» .entry)) [] [] [] [] (now (nodo .entry))))) (tableOf (now («ob_pun» .entry)) Kind.ObPun .count)) ⌝ }
+    ensures { λ r. ⌜ r ≡ foundOf (firstIndex (pointElsewhere (tableOf (now («ob_pun» .entry)) Kind.ObPun) (tableOf (now (nodo .entry)) Kind.Nodo)) (tableOf (now («ob_pun» .entry)) Kind.ObPun .count)) ⌝ }
 {
     let mut ids = [0u64; 16384];
     let m = fill_names(nodo, Kind::Nodo, 1, &mut ids);

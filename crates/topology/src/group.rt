@@ -13,6 +13,8 @@ use index::Found;
 use keys::group::Best;
 use keys::group::better;
 use record::check::break_of;
+use record::files::file_of;
+use record::kind::FILES;
 use record::kind::Kind;
 use record::kind::Which;
 use record::kind::kind_of;
@@ -20,15 +22,16 @@ use record::reason::Finding;
 use record::reason::Reason;
 ghost use mathlib.Core.Path.{_≡_};
 ghost use mathlib.Core.Bool.{false, _&&_};
-ghost use mathlib.Core.List.{List, []};
+ghost use mathlib.Core.List.{List, map};
 ghost use Prim.Native.Nat.{ℕ, _≤_, _<_};
 ghost use lib.ListN.{getD};
 ghost use Rattle.laws.specs.Find.{firstIndex};
 ghost use Rattle.index.specs.Keys.{foundOf};
 ghost use Rattle.topology.specs.Places.{orIndex};
-ghost use Rattle.keys.specs.Delivery.{filesOf, deliveryOf};
+ghost use Rattle.record.specs.Files.{filesOf, deliveryOf};
+ghost use Rattle.record.specs.Says.{tableOf};
 ghost use Rattle.keys.specs.Groups.{atFile};
-ghost use Rattle.topology.specs.Rules.{isAt, fifties, fiftyReasons};
+ghost use Rattle.topology.specs.Rules.{isAt, fifties, reasonsAt};
 ghost use Rattle.topology.specs.Findings.{topologyIn, topologyFinding};
 
 // Whether a rule of this file and field is read of file k at field f.
@@ -38,52 +41,20 @@ fn is_at(file: Kind, field: usize, k: Kind, f: usize) -> bool
     (k.number() == file.number()) & (f == field)
 }
 
-// 50 and 51, at VERTICE field 2.
-fn first_in_vertice<'a>(u: usize, vertice: &'a [u8]) -> Found
-    ensures { λ r. ⌜ r ≡ foundOf (firstIndex (λ i. getD (fifties (deliveryOf (filesOf [] [] [] [] [] (now (vertice .entry)) [])) Kind.Vertice i 2) u false) (deliveryOf (filesOf [] [] [] [] [] (now (vertice .entry)) []) Kind.Vertice .count)) ⌝ }
-{
-    match u {
-        0 => first_gap(vertice),
-        1 => first_alone(vertice),
-        _ => Found::Nothing,
-    }
-}
-
-// 54 and 56, at NODO field 0.
-fn first_in_nodo<'a>(
-    u: usize,
-    ob_pun: &'a [u8],
-    tramo: &'a [u8],
-    vertice: &'a [u8],
-    nodo: &'a [u8],
-) -> Found
-    ensures { λ r. ⌜ r ≡ foundOf (firstIndex (λ i. getD (fifties (deliveryOf (filesOf [] (now («ob_pun» .entry)) [] [] (now (tramo .entry)) (now (vertice .entry)) (now (nodo .entry)))) Kind.Nodo i 0) u false) (deliveryOf (filesOf [] (now («ob_pun» .entry)) [] [] (now (tramo .entry)) (now (vertice .entry)) (now (nodo .entry))) Kind.Nodo .count)) ⌝ }
-{
-    match u {
-        4 => first_repeat_place(nodo),
-        6 => first_idle_node(ob_pun, tramo, vertice, nodo),
-        _ => Found::Nothing,
-    }
-}
-
 // The first record of file k that breaks the reason 50 + u at field f.
-fn first_in<'a>(
-    k: Kind,
-    f: usize,
-    u: usize,
-    ob_pun: &'a [u8],
-    ob_lin: &'a [u8],
-    tramo: &'a [u8],
-    vertice: &'a [u8],
-    nodo: &'a [u8],
-) -> Found
-    ensures { λ r. ⌜ r ≡ foundOf (firstIndex (λ i. getD (fifties (deliveryOf (filesOf [] (now («ob_pun» .entry)) [] (now («ob_lin» .entry)) (now (tramo .entry)) (now (vertice .entry)) (now (nodo .entry)))) k i f) u false) ((deliveryOf (filesOf [] (now («ob_pun» .entry)) [] (now («ob_lin» .entry)) (now (tramo .entry)) (now (vertice .entry)) (now (nodo .entry)))) k .count)) ⌝ }
+fn first_in<'a>(k: Kind, f: usize, u: usize, files: [&'a [u8]; FILES]) -> Found
+    ensures { λ r. ⌜ r ≡ foundOf (firstIndex (λ i. getD (fifties (deliveryOf (filesOf (map now (files .entry)))) k i f) u false) (deliveryOf (filesOf (map now (files .entry))) k .count)) ⌝ }
 {
-    if is_at(Kind::Vertice, 2, k, f) {
-        return first_in_vertice(u, vertice);
+    let ob_pun = file_of(files, Kind::ObPun);
+    let ob_lin = file_of(files, Kind::ObLin);
+    let tramo = file_of(files, Kind::Tramo);
+    let vertice = file_of(files, Kind::Vertice);
+    let nodo = file_of(files, Kind::Nodo);
+    if is_at(Kind::Vertice, 2, k, f) & (u == 0) {
+        return first_gap(vertice);
     }
-    if is_at(Kind::Nodo, 0, k, f) {
-        return first_in_nodo(u, ob_pun, tramo, vertice, nodo);
+    if is_at(Kind::Vertice, 2, k, f) & (u == 1) {
+        return first_alone(vertice);
     }
     if is_at(Kind::Tramo, 6, k, f) & (u == 2) {
         return first_elsewhere(End::Start, tramo, vertice, nodo);
@@ -91,8 +62,14 @@ fn first_in<'a>(
     if is_at(Kind::Tramo, 7, k, f) & (u == 3) {
         return first_elsewhere(End::Last, tramo, vertice, nodo);
     }
+    if is_at(Kind::Nodo, 0, k, f) & (u == 4) {
+        return first_repeat_place(nodo);
+    }
     if is_at(Kind::ObPun, 3, k, f) & (u == 5) {
         return first_astray(ob_pun, nodo);
+    }
+    if is_at(Kind::Nodo, 0, k, f) & (u == 6) {
+        return first_idle_node(ob_pun, tramo, vertice, nodo);
     }
     if is_at(Kind::ObLin, 0, k, f) & (u == 7) {
         return first_idle_object(ob_lin, tramo);
@@ -113,10 +90,10 @@ fn or_first(found: Found) -> usize
     }
 }
 
-// The reason 50 + u with its data, for node i.
+// The reason 50 + u with its data, for record i; only a node's has any.
 fn reason_in(u: usize, i: usize, nodo: &[u8]) -> Reason
     requires { ⌜ i < 16384 ⌝ }
-    ensures { λ r. ⌜ r ≡ getD (fiftyReasons (deliveryOf (filesOf [] [] [] [] [] [] (now (nodo .entry)))) Kind.Nodo i 0) u Reason.LongFile10 ⌝ }
+    ensures { λ r. ⌜ r ≡ getD (reasonsAt (tableOf (now (nodo .entry)) Kind.Nodo) i) u Reason.LongFile10 ⌝ }
 {
     match u {
         0 => Reason::OrderGap50,
@@ -133,15 +110,8 @@ fn reason_in(u: usize, i: usize, nodo: &[u8]) -> Reason
 }
 
 // The first break of the fifties in file k.
-fn check_file<'a>(
-    k: Kind,
-    ob_pun: &'a [u8],
-    ob_lin: &'a [u8],
-    tramo: &'a [u8],
-    vertice: &'a [u8],
-    nodo: &'a [u8],
-) -> Finding
-    ensures { λ r. ⌜ r ≡ topologyIn (deliveryOf (filesOf [] (now («ob_pun» .entry)) [] (now («ob_lin» .entry)) (now (tramo .entry)) (now (vertice .entry)) (now (nodo .entry)))) k ⌝ }
+fn check_file<'a>(k: Kind, files: [&'a [u8]; FILES]) -> Finding
+    ensures { λ r. ⌜ r ≡ topologyIn (deliveryOf (filesOf (map now (files .entry)))) k ⌝ }
 {
     let n = (k.fields() + 1) * 10;
     let mut best = Best {
@@ -151,7 +121,7 @@ fn check_file<'a>(
     };
     let mut c = 0;
     while c < n {
-        let found = first_in(k, c / 10, c % 10, ob_pun, ob_lin, tramo, vertice, nodo);
+        let found = first_in(k, c / 10, c % 10, files);
         best = better(best, found, c);
         c += 1;
     }
@@ -159,42 +129,29 @@ fn check_file<'a>(
         let i = best.at;
         let f = best.cell / 10;
         let u = best.cell % 10;
-        let reason = reason_in(u, i, nodo);
+        let reason = reason_in(u, i, file_of(files, Kind::Nodo));
         Finding::Broken(break_of(reason, k, i + 1, f))
     } else {
         Finding::Fine
     }
 }
 
-fn check_which<'a>(
-    which: Which,
-    ob_pun: &'a [u8],
-    ob_lin: &'a [u8],
-    tramo: &'a [u8],
-    vertice: &'a [u8],
-    nodo: &'a [u8],
-) -> Finding
-    ensures { λ r. ⌜ r ≡ atFile (topologyIn (deliveryOf (filesOf [] (now («ob_pun» .entry)) [] (now («ob_lin» .entry)) (now (tramo .entry)) (now (vertice .entry)) (now (nodo .entry))))) which ⌝ }
+fn check_which<'a>(which: Which, files: [&'a [u8]; FILES]) -> Finding
+    ensures { λ r. ⌜ r ≡ atFile (topologyIn (deliveryOf (filesOf (map now (files .entry))))) which ⌝ }
 {
     match which {
         Which::NoFile => Finding::Fine,
-        Which::File(k) => check_file(k, ob_pun, ob_lin, tramo, vertice, nodo),
+        Which::File(k) => check_file(k, files),
     }
 }
 
 // The first break of the fifties in a delivery.
-pub fn check_topology<'a>(
-    ob_pun: &'a [u8],
-    ob_lin: &'a [u8],
-    tramo: &'a [u8],
-    vertice: &'a [u8],
-    nodo: &'a [u8],
-) -> Finding
-    ensures { λ r. ⌜ r ≡ topologyFinding (deliveryOf (filesOf [] (now («ob_pun» .entry)) [] (now («ob_lin» .entry)) (now (tramo .entry)) (now (vertice .entry)) (now (nodo .entry)))) ⌝ }
+pub fn check_topology<'a>(files: [&'a [u8]; FILES]) -> Finding
+    ensures { λ r. ⌜ r ≡ topologyFinding (deliveryOf (filesOf (map now (files .entry)))) ⌝ }
 {
     let mut n = 0;
-    while n < 8 {
-        let v = check_which(kind_of(n), ob_pun, ob_lin, tramo, vertice, nodo);
+    while n <= FILES {
+        let v = check_which(kind_of(n), files);
         if v.is_fine() {
             n += 1;
         } else {

@@ -9,13 +9,13 @@ use index::hint::fill_hints;
 use index::hint::has_hinted;
 use index::order::sort;
 use index::twice::duplicate;
-use keys::column::fill_names;
-use keys::names::name;
 use record::columns::rows;
+use record::fill::fill_names;
 use record::kind::Kind;
+use record::names::name;
 ghost use mathlib.Core.Path.{_≡_};
 ghost use mathlib.Core.Bool.{not, _||_};
-ghost use mathlib.Core.List.{List, []};
+ghost use mathlib.Core.List.{List};
 ghost use Prim.Native.Nat.{ℕ, _+_, _*_, _%_, _≤_, _<_, _^_};
 ghost use lib.Dec.{eqb};
 ghost use lib.ListN.{length, getD};
@@ -24,8 +24,8 @@ ghost use Rattle.laws.specs.Row.{pick};
 ghost use Rattle.index.specs.Keys.{foundOf};
 ghost use Rattle.index.specs.Order.{Index};
 ghost use Rattle.record.specs.Says.{tableOf};
-ghost use Rattle.keys.specs.Columns.{Fills};
-ghost use Rattle.keys.specs.Delivery.{filesOf, deliveryOf, nameAt};
+ghost use Rattle.record.specs.machinery.Columns.{Fills};
+ghost use Rattle.record.specs.Names.{nameAt};
 ghost use Rattle.topology.specs.Rules.{xAt, yAt, zAt, placed, samePlace, placedBefore, nodeUsed, objectIdle};
 ghost use Rattle.topology.specs.Places.{positionOf, spotOf, Marks};
 
@@ -227,7 +227,7 @@ pub(crate) fn first_idle_node<'a>(
     vertice: &'a [u8],
     nodo: &'a [u8],
 ) -> Found
-    ensures { λ r. ⌜ r ≡ foundOf (firstIndex (λ i. not (nodeUsed (deliveryOf (filesOf [] (now («ob_pun» .entry)) [] [] (now (tramo .entry)) (now (vertice .entry)) (now (nodo .entry)))) i)) (tableOf (now (nodo .entry)) Kind.Nodo .count)) ⌝ }
+    ensures { λ r. ⌜ r ≡ foundOf (firstIndex (λ i. not (nodeUsed (tableOf (now («ob_pun» .entry)) Kind.ObPun) (tableOf (now (tramo .entry)) Kind.Tramo) (tableOf (now (vertice .entry)) Kind.Vertice) (tableOf (now (nodo .entry)) Kind.Nodo) i)) (tableOf (now (nodo .entry)) Kind.Nodo .count)) ⌝ }
 {
     let mut used = [0u64; 16384];
     mark_names(nodo, Kind::Nodo, 1, tramo, Kind::Tramo, 6, &mut used);
@@ -239,7 +239,7 @@ pub(crate) fn first_idle_node<'a>(
 
 // 57: the first linear object that no tramo names.
 pub(crate) fn first_idle_object<'a>(ob_lin: &'a [u8], tramo: &'a [u8]) -> Found
-    ensures { λ r. ⌜ r ≡ foundOf (firstIndex (objectIdle (deliveryOf (filesOf [] [] [] (now («ob_lin» .entry)) (now (tramo .entry)) [] []))) (tableOf (now («ob_lin» .entry)) Kind.ObLin .count)) ⌝ }
+    ensures { λ r. ⌜ r ≡ foundOf (firstIndex (objectIdle (tableOf (now («ob_lin» .entry)) Kind.ObLin) (tableOf (now (tramo .entry)) Kind.Tramo)) (tableOf (now («ob_lin» .entry)) Kind.ObLin .count)) ⌝ }
 {
     let mut used = [0u64; 16384];
     mark_names(ob_lin, Kind::ObLin, 1, tramo, Kind::Tramo, 2, &mut used);

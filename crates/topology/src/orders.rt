@@ -3,7 +3,7 @@ use index::Found;
 use index::hint::fill_hints;
 use index::hint::has_hinted;
 use index::order::sort;
-use keys::column::fill_keys;
+use record::fill::fill_keys;
 use record::kind::Kind;
 ghost use mathlib.Core.Path.{_≡_};
 ghost use Prim.Native.Nat.{ℕ, _≤_, _<_, _^_};
@@ -12,7 +12,7 @@ ghost use Rattle.laws.specs.Find.{firstIndex};
 ghost use Rattle.index.specs.Keys.{foundOf, listed};
 ghost use Rattle.index.specs.Order.{Index};
 ghost use Rattle.record.specs.Says.{tableOf};
-ghost use Rattle.keys.specs.Delivery.{keyOf};
+ghost use Rattle.record.specs.Names.{keyOf};
 ghost use Rattle.topology.specs.Rules.{gap, alone};
 
 // 50, of a vertex.

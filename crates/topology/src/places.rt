@@ -1,10 +1,10 @@
 // Places in X and Y, and look-ups of them.
 use index::Found;
 use index::hint::find_hinted;
-use keys::names::name;
 use record::columns::place;
 use record::columns::rows;
 use record::kind::Kind;
+use record::names::name;
 ghost use mathlib.Core.Path.{_≡_};
 ghost use mathlib.Core.Bool.{_&&_};
 ghost use Prim.Native.Nat.{ℕ, _+_, _*_, _%_, _≤_, _<_, _^_};
@@ -12,9 +12,10 @@ ghost use lib.Dec.{eqb};
 ghost use lib.ListN.{length, getD};
 ghost use Rattle.index.specs.Order.{Index};
 ghost use Rattle.record.specs.Says.{tableOf};
-ghost use Rattle.keys.specs.Columns.{Fills};
-ghost use Rattle.keys.specs.Delivery.{nameAt};
-ghost use Rattle.topology.specs.Rules.{xField, xAt, yAt, zAt, placed, nodeIn};
+ghost use Rattle.record.specs.machinery.Columns.{Fills};
+ghost use Rattle.record.specs.Names.{nameAt};
+ghost use Rattle.topology.specs.Rules.{xAt, yAt, zAt, placed, nodeIn};
+ghost use Rattle.record.specs.Table.{xField};
 ghost use Rattle.topology.specs.Places.{positionOf};
 
 // The field of X; Y is two fields after it, Z four.

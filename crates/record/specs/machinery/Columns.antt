@@ -4,20 +4,21 @@ use Prim.Native.Nat.{ℕ, _≤_, _<_}
 use mathlib.Core.List.{List}
 use mathlib.Core.Path.{_≡_}
 use lib.ListN.{length, getD}
+use Rattle.record.specs.Table.{limit}
 
--- a column of n numbers, at most 16,384, read into lent room: r are read, all of them or, where the room is too short, none; the rest
+-- a column of n numbers, at most the limit, read into lent room: r are read, all of them or, where the room is too short, none; the rest
 -- of the room holds what it held before
 pub record ReadInto (before out : List ℕ) (column : ℕ → ℕ) (n r : ℕ) : Type 0 where
-  pub small : n ≤ 16384
+  pub small : n ≤ limit
   pub fits : n ≤ length before → r ≡ n
   pub short : length before < n → r ≡ 0
   pub long : length out ≡ length before
   pub holds : (i : ℕ) → i < r → getD out i 0 ≡ column i
   pub rest : (i : ℕ) → r ≤ i → getD out i 0 ≡ getD before i 0
 
--- r is the column's length n, at most 16,384, and the first n numbers of the array are the column's
+-- r is the column's length n, at most the limit, and the first n numbers of the array are the column's
 pub record Fills (out : List ℕ) (column : ℕ → ℕ) (n r : ℕ) : Type 0 where
   pub count : r ≡ n
-  pub small : n ≤ 16384
-  pub long : length out ≡ 16384
+  pub small : n ≤ limit
+  pub long : length out ≡ limit
   pub holds : (i : ℕ) → i < n → getD out i 0 ≡ column i

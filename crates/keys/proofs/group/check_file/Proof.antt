@@ -1,10 +1,12 @@
 -- `keys::group::check_file` meets its contract. The loop's invariant: `best` is the best of the cells before `c`.
 -- Assumes nothing.
 use Prim.Native.Nat.{_-_}
+use mathlib.Core.List.{map}
 use native.Mathlib.Omega.{arith}
+use denote.Ref.{now}
 use borrow.Author.Needs.{needs}
+use Rattle.record.specs.Files.{filesOf, deliveryOf}
 use Rattle.record.proofs.TableLaws.{sane}
-use Rattle.keys.specs.Delivery.{filesOf, deliveryOf}
 use Rattle.keys.specs.Rules.{keyTests}
 use Rattle.keys.specs.Findings.{keysIn}
 use Rattle.keys.proofs.CellLaws.{Sifted, sifted-start, sifted-more, sifted-row, sifted-broken, sifted-fine}
@@ -12,21 +14,21 @@ use Rattle.keys.proofs.group.check_file.Statement.{statement}
 use Rattle.keys.proofs.group.check_file.Tie as tie
 
 abbrev Inv-loop : tie.InvT-loop
-Inv-loop t k catalogo ob-pun ob-tex ob-lin tramo vertice nodo n best₀ c₀ best c =
-    let d = deliveryOf (filesOf catalogo ob-pun ob-tex ob-lin tramo vertice nodo) in
+Inv-loop t k files n best₀ c₀ best c =
+    let d = deliveryOf (filesOf (map now files)) in
     Sifted (keyTests t d k) k (d k .count) n c best
 
 abbrev μ-loop : tie.MeasureT-loop
-μ-loop t k catalogo ob-pun ob-tex ob-lin tramo vertice nodo n best₀ c₀ best c = n - c
+μ-loop t k files n best₀ c₀ best c = n - c
 
 fields-requires : tie.Need-fields-requires Inv-loop μ-loop
 fields-requires c κs = search needs
 
 add-n : tie.Need-add-n Inv-loop μ-loop
-add-n c = omega (arith, c .fields .ensures, sane (c .before .before .before .before .before .before .before .before .args .k))
+add-n c = omega (arith, sane (c .before .args .k))
 
 mul-n : tie.Need-mul-n Inv-loop μ-loop
-mul-n c = omega (arith, c .fields .ensures, sane (c .before .before .before .before .before .before .before .before .args .k))
+mul-n c = omega (arith, sane (c .before .args .k))
 
 loop-holds : tie.Need-loop-holds Inv-loop μ-loop
 loop-holds c = sifted-start _ _ _ _ (omega (arith, c .fields .ensures))
@@ -38,9 +40,7 @@ better-requires : tie.Need-better-requires Inv-loop μ-loop
 better-requires c κs = search needs
 
 add-c : tie.Need-add-c Inv-loop μ-loop
-add-c c =
-    omega
-    (arith, c .before .before .loop-test .taken, c .before .before .before .loop .inv .cells, sane (c .before .before .before .before .before .before .before .before .before .before .before .before .args .k))
+add-c c = omega (arith, sane (c .before .before .before .before .before .args .k))
 
 loop-less : tie.Need-loop-less Inv-loop μ-loop
 loop-less c = search needs

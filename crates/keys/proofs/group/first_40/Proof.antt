@@ -8,8 +8,8 @@ use Rattle.keys.proofs.group.first_40.Tie as tie
 file-of-requires : tie.Need-file-of-requires
 file-of-requires c κs = search needs
 
-target-of-requires : tie.Need-target-of-requires
-target-of-requires c κs = search needs
+target-requires : tie.Need-target-requires
+target-requires c κs = search needs
 
 enum-told : tie.Need-enum-told
 enum-told c = search needs
@@ -30,16 +30,16 @@ first-dangling-requires : tie.Need-first-dangling-requires
 first-dangling-requires c κs = search needs
 
 returns : tie.Need-returns
-returns c = first-40-free _ _ _ (c .before .before .target-of .ensures) (c .enum-told .given .1)
+returns c = first-40-free _ _ _ (c .before .before .target .ensures) (c .enum-told .given .1)
 
 returns-2 : tie.Need-returns-2
 returns-2 c =
-    first-40-nowhere _ _ _ (c .before .before .before .before .file-of .ensures) (c .before .before .before .target-of .ensures)
+    first-40-nowhere _ _ _ (c .before .before .before .before .file-of .ensures) (c .before .before .before .target .ensures)
     (c .before .enum-told2 .given .1) (c .first-present .ensures)
 
 returns-3 : tie.Need-returns-3
 returns-3 c =
-    first-40-to _ _ _ (c .before .before .before .before .before .before .file-of .ensures) (c .before .before .before .before .before .target-of .ensures)
+    first-40-to _ _ _ (c .before .before .before .before .before .before .file-of .ensures) (c .before .before .before .before .before .target .ensures)
     (c .before .before .before .other .given .1) (c .before .file-of2 .ensures) (c .first-dangling .ensures)
 
 pub first-40-spec : {M : Type 1} → statement M
@@ -47,7 +47,7 @@ first-40-spec =
     tie.close
     (tie.spec
     file-of-requires
-    target-of-requires
+    target-requires
     enum-told
     enum-told-2
     first-present-requires

@@ -5,7 +5,7 @@ use mathlib.Core.Path.{sym, _∙_}
 use lib.Dec.{eqb}
 use borrow.Author.Needs.{needs}
 use Rattle.record.specs.Says.{tableOf}
-use Rattle.keys.specs.Delivery.{keyOf}
+use Rattle.record.specs.Names.{keyOf}
 use Rattle.keys.proofs.FoundLaws.{Passed, found-start}
 use Rattle.keys.proofs.CellLaws.{named-here, named-more, named-end}
 use Rattle.keys.proofs.group.first_with_key.Statement.{statement}

@@ -4,7 +4,7 @@ use native.Mathlib.Omega.{arith}
 use denote.Ref.{now}
 use borrow.Author.Needs.{needs}
 use Rattle.record.specs.Says.{tableOf}
-use Rattle.keys.specs.Delivery.{keyOf}
+use Rattle.record.specs.Names.{keyOf}
 use Rattle.keys.proofs.CellLaws.{named-under, reason-30, reason-40, reason-41, reason-other, other-3, other-4, other-ten}
 use Rattle.keys.proofs.group.reason_in.Statement.{statement}
 use Rattle.keys.proofs.group.reason_in.Tie as tie
@@ -18,12 +18,12 @@ record-key-requires c κs = search needs
 first-with-key-requires : tie.Need-first-with-key-requires
 first-with-key-requires c κs = search needs
 
-add-t20 : tie.Need-add-t20
-add-t20 c =
-    let a = c .before .before .before .before .before .before .before .before .before .before .before .before .args in
+add-t16 : tie.Need-add-t16
+add-t16 c =
+    let a = c .before .before .before .before .before .args in
     let own = now (c .before .before .before .before .file-of .result) in
     omega
-    (arith, c .before .before .before .before .before .before .before .before .before .before .before .before .pre, c .first-with-key .ensures, named-under (keyOf (a .k) (tableOf own (a .k))) (a .i) (c .before .record-key .result))
+    (arith, c .before .before .before .before .before .pre, c .first-with-key .ensures, named-under (keyOf (a .k) (tableOf own (a .k))) (a .i) (c .before .record-key .result))
 
 returns : tie.Need-returns
 returns c =
@@ -35,6 +35,9 @@ returns-2 c = reason-other _ _ _ _ (other-3 (c .before .if1 .taken) (c .if2 .lef
 
 returns-3 : tie.Need-returns-3
 returns-3 c = reason-40 _ _ _ _ (c .before .if3 .taken) (c .if4 .taken)
+
+file-of-requires-2 : tie.Need-file-of-requires-2
+file-of-requires-2 c κs = search needs
 
 rows-requires : tie.Need-rows-requires
 rows-requires c κs = search needs
@@ -50,8 +53,8 @@ letter-requires c κs = search needs
 
 returns-4 : tie.Need-returns-4
 returns-4 c =
-    reason-41 _ _ _ _ (c .before .before .before .before .before .before .before .before .file-of .ensures) (c .before .before .before .before .before .before .if3 .taken) (c .before .before .before .before .if5 .taken)
-    (c .before .before .before .rows .ensures .0) (c .before .before .name .ensures .0) (c .before .first-with-key2 .ensures) (c .letter .ensures)
+    reason-41 _ _ _ _ (c .before .before .before .before .before .before .before .before .before .file-of .ensures) (c .before .before .before .before .before .before .before .if3 .taken) (c .before .before .before .before .before .if5 .taken)
+    (c .before .before .before .before .file-of2 .ensures) (c .before .before .before .rows .ensures .0) (c .before .before .name .ensures .0) (c .before .first-with-key2 .ensures) (c .letter .ensures)
 
 returns-5 : tie.Need-returns-5
 returns-5 c = reason-other _ _ _ _ (other-4 (c .before .before .if3 .taken) (c .before .if4 .left) (c .if5 .left))
@@ -66,10 +69,11 @@ reason-in-spec =
     file-of-requires
     record-key-requires
     first-with-key-requires
-    add-t20
+    add-t16
     returns
     returns-2
     returns-3
+    file-of-requires-2
     rows-requires
     name-requires
     first-with-key-requires-2

@@ -4,7 +4,7 @@ use mathlib.Core.Path.{ap, sym, _∙_}
 use Rattle.index.specs.Keys.{foundOf}
 use Rattle.index.proofs.OrderLaws.{sorts-room}
 use Rattle.keys.proofs.ReferLaws.{fills-room, index-filled, dangles-filled, none-dangles-filled}
-use Rattle.keys.proofs.ColumnLaws.{read-fills}
+use Rattle.record.proofs.ColumnLaws.{read-fills}
 use borrow.Author.Needs.{needs}
 use Rattle.keys.proofs.refer.first_dangling.Statement.{statement}
 use Rattle.keys.proofs.refer.first_dangling.Tie as tie

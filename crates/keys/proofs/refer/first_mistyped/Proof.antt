@@ -5,7 +5,7 @@ use Rattle.index.specs.Keys.{foundOf}
 use Rattle.keys.specs.Rules.{mistyped}
 use Rattle.index.proofs.OrderLaws.{sorts-room}
 use Rattle.keys.proofs.ReferLaws.{fills-room, index-filled}
-use Rattle.keys.proofs.ColumnLaws.{read-fills}
+use Rattle.record.proofs.ColumnLaws.{read-fills}
 use borrow.Author.Needs.{needs}
 use Rattle.keys.proofs.refer.first_mistyped.Statement.{statement}
 use Rattle.keys.proofs.refer.first_mistyped.Tie as tie

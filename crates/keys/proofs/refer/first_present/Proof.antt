@@ -4,7 +4,7 @@ use borrow.Author.Tests.{eq-eqb, ne-eqb}
 use Prim.Native.Nat.{_-_}
 use mathlib.Core.Bool.{not}
 use lib.Dec.{eqb}
-use Rattle.keys.specs.Delivery.{nameAt}
+use Rattle.record.specs.Names.{nameAt}
 use Rattle.record.specs.Says.{tableOf}
 use Rattle.keys.proofs.FoundLaws.{Passed, found-start, found-more, found-here, found-end}
 use borrow.Author.Needs.{needs}

@@ -4,7 +4,7 @@ use Rattle.keys.specs.Rules.{typedIn}
 use Prim.Native.Nat.{_-_}
 use mathlib.Core.Bool.{_&&_}
 use lib.Dec.{eqb}
-use Rattle.keys.specs.Delivery.{nameAt}
+use Rattle.record.specs.Names.{nameAt}
 use Rattle.record.specs.Says.{tableOf, letterIn}
 use Rattle.record.specs.declared.kind.Kind.the-variants.{Catalogo}
 use Rattle.keys.proofs.FoundLaws.{Passed, found-start, found-more, any-found, any-end}

@@ -1,7 +1,8 @@
 -- `first_repeat` meets its contract: the keys are in the array, and the first that is there twice is found.
 -- Assumes nothing.
 use borrow.Author.Needs.{needs}
-use Rattle.keys.proofs.ColumnLaws.{read-fills, repeat-filled}
+use Rattle.keys.proofs.RepeatLaws.{repeat-filled}
+use Rattle.record.proofs.ColumnLaws.{read-fills}
 use Rattle.keys.proofs.repeat.first_repeat.Statement.{statement}
 use Rattle.keys.proofs.repeat.first_repeat.Tie as tie
 

@@ -2,16 +2,17 @@
 -- Assumes nothing.
 use Prim.Native.Nat.{_-_}
 use mathlib.Core.Path.{_∙_}
+use Rattle.record.specs.declared.kind.Kind.the-variants.{Tramo, Vertice, Nodo}
+use Rattle.record.specs.Says.{tableOf}
 use Rattle.keys.proofs.FoundLaws.{Passed, found-start, found-more, found-here, found-end}
 use Rattle.topology.specs.Ends.{apart}
-use Rattle.topology.specs.Rules.{meets}
-use Rattle.topology.proofs.EndLaws.{endFiles, line-narrow, apart-said}
+use Rattle.topology.proofs.EndLaws.{line-narrow, apart-said}
 use borrow.Author.Needs.{needs}
 use Rattle.topology.proofs.ends.first_apart.Statement.{statement}
 use Rattle.topology.proofs.ends.first_apart.Tie as tie
 
 abbrev Inv-loop : tie.InvT-loop
-Inv-loop end tramo vertice keys order vertices n nodo ids ranks nodes m t i₀ i = Passed (apart end (endFiles tramo vertice nodo)) t i
+Inv-loop end tramo vertice keys order vertices n nodo ids ranks nodes m t i₀ i = Passed (apart end (tableOf tramo Tramo) (tableOf vertice Vertice) (tableOf nodo Nodo)) t i
 
 abbrev μ-loop : tie.MeasureT-loop
 μ-loop end tramo vertice keys order vertices n nodo ids ranks nodes m t i₀ i = t - i
@@ -38,11 +39,10 @@ is-elsewhere-requires : tie.Need-is-elsewhere-requires Inv-loop μ-loop
 is-elsewhere-requires c κs = search needs
 
 returns : tie.Need-returns Inv-loop μ-loop
-unfolding meets
 returns c =
     let s = c .before .before .before .before .before .before .before .before .before .before .before .before .before .before .before .before .before .before in
     found-here (c .before .before .before .before .before .before .before .loop .inv) (c .before .before .before .before .before .before .before .before .rows .ensures .0) (c .before .before .before .before .before .before .loop-test .taken)
-    (apart-said (s .args .end) (endFiles (s .args .tramo .now) (s .args .vertice .now) (s .args .nodo .now)) (s .pre .1) _
+    (apart-said (s .args .end) _ _ _ (s .pre .1) _
     (c .before .before .before .before .before .name .ensures .0) (c .before .before .before .before .key .ensures) (c .before .before .before .field .ensures .0) (c .before .before .name2 .ensures .0)
     (c .before .is-elsewhere .ensures)
     ∙ c .if1 .taken)
@@ -54,11 +54,10 @@ loop-less : tie.Need-loop-less Inv-loop μ-loop
 loop-less c = search needs
 
 loop-again : tie.Need-loop-again Inv-loop μ-loop
-unfolding meets
 loop-again c =
     let s = c .before .before .before .before .before .before .before .before .before .before .before .before .before .before .before .before .before .before in
     found-more (c .before .before .before .before .before .before .before .loop .inv) (c .before .before .before .before .before .before .loop-test .taken)
-    (apart-said (s .args .end) (endFiles (s .args .tramo .now) (s .args .vertice .now) (s .args .nodo .now)) (s .pre .1) _
+    (apart-said (s .args .end) _ _ _ (s .pre .1) _
     (c .before .before .before .before .before .name .ensures .0) (c .before .before .before .before .key .ensures) (c .before .before .before .field .ensures .0) (c .before .before .name2 .ensures .0)
     (c .before .is-elsewhere .ensures)
     ∙ c .if1 .left)

@@ -2,7 +2,7 @@
 -- Assumes nothing.
 use Rattle.index.proofs.OrderLaws.{sorts-room}
 use Rattle.keys.proofs.ReferLaws.{fills-room}
-use Rattle.keys.proofs.ColumnLaws.{read-fills}
+use Rattle.record.proofs.ColumnLaws.{read-fills}
 use borrow.Author.Needs.{needs}
 use Rattle.topology.proofs.ends.first_astray.Statement.{statement}
 use Rattle.topology.proofs.ends.first_astray.Tie as tie

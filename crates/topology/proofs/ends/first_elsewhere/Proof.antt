@@ -3,7 +3,7 @@
 use Rattle.laws.proofs.RowLaws.{and-true, then-false}
 use Rattle.index.proofs.OrderLaws.{sorts-room}
 use Rattle.keys.proofs.ReferLaws.{fills-room}
-use Rattle.keys.proofs.ColumnLaws.{read-fills}
+use Rattle.record.proofs.ColumnLaws.{read-fills}
 use borrow.Author.Needs.{needs}
 use Rattle.topology.proofs.ends.first_elsewhere.Statement.{statement}
 use Rattle.topology.proofs.ends.first_elsewhere.Tie as tie

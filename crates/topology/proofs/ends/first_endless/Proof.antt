@@ -5,7 +5,7 @@ use Rattle.index.specs.Keys.{foundOf}
 use Rattle.index.proofs.OrderLaws.{sorts-room}
 use Rattle.keys.proofs.ReferLaws.{fills-room}
 use Rattle.topology.proofs.EndLaws.{endless-column}
-use Rattle.keys.proofs.ColumnLaws.{read-fills}
+use Rattle.record.proofs.ColumnLaws.{read-fills}
 use borrow.Author.Needs.{needs}
 use Rattle.topology.proofs.ends.first_endless.Statement.{statement}
 use Rattle.topology.proofs.ends.first_endless.Tie as tie

@@ -6,7 +6,7 @@ use borrow.Author.Tests.{eq-eqb, ne-eqb}
 use Rattle.index.specs.Keys.{listed}
 use Rattle.record.specs.declared.kind.Kind.the-variants.{Tramo}
 use Rattle.record.specs.Says.{tableOf}
-use Rattle.keys.specs.Delivery.{nameAt}
+use Rattle.record.specs.Names.{nameAt}
 use Rattle.keys.proofs.FoundLaws.{Passed, found-start, found-more, found-here, found-end}
 use Rattle.topology.specs.Rules.{highestIn}
 use Rattle.topology.proofs.EndLaws.{line-narrow}

@@ -1,7 +1,6 @@
 -- `topology::ends::is_elsewhere` meets its contract. A vertex that is found decides where it meets the node, or the scan does.
 -- Assumes nothing.
-use mathlib.Core.List.{[]}
-use Rattle.topology.proofs.EndLaws.{endFiles, elsewhere-none, elsewhere-found, elsewhere-met}
+use Rattle.topology.proofs.EndLaws.{elsewhere-none, elsewhere-found, elsewhere-met}
 use borrow.Author.Needs.{needs}
 use Rattle.topology.proofs.ends.is_elsewhere.Statement.{statement}
 use Rattle.topology.proofs.ends.is_elsewhere.Tie as tie
@@ -26,8 +25,7 @@ node-at-requires c κs = search needs
 
 returns : tie.Need-returns
 returns c =
-    let s = c .before .before .before .before .before .before .before .before .before .before .before .before .before .before .before .before in
-    elsewhere-met (endFiles [] (s .args .vertice .now) (s .args .nodo .now)) (s .pre .1) _ (s .args .wanted)
+    elsewhere-met _ _ _ _ (c .before .before .before .before .before .before .before .before .before .before .before .before .before .before .before .before .pre .1)
     (c .before .before .before .before .before .before .before .find-hinted .ensures) (c .before .before .before .before .before .found .given .1) (c .before .before .before .x-at .ensures .0) (c .before .before .y-at .ensures .0)
     (c .before .node-at .ensures) (c .if1 .taken)
 
@@ -36,14 +34,12 @@ scan-meets-requires c κs = search needs
 
 returns-2 : tie.Need-returns-2
 returns-2 c =
-    let s = c .before .before .before .before .before .before .before .before .before .before .before in
-    elsewhere-none (endFiles [] (s .args .vertice .now) (s .args .nodo .now)) (s .pre .1) _ (s .args .wanted)
+    elsewhere-none _ _ _ _ (c .before .before .before .before .before .before .before .before .before .before .before .pre .1)
     (c .before .before .find-hinted .ensures) (c .enum-told .given .1)
 
 returns-3 : tie.Need-returns-3
 returns-3 c =
-    let s = c .before .before .before .before .before .before .before .before .before .before .before .before .before .before .before .before .before in
-    elsewhere-found (endFiles [] (s .args .vertice .now) (s .args .nodo .now)) (s .pre .1) _ (s .args .wanted)
+    elsewhere-found _ _ _ _ (c .before .before .before .before .before .before .before .before .before .before .before .before .before .before .before .before .before .pre .1)
     (c .before .before .before .before .before .before .before .before .find-hinted .ensures) (c .before .before .before .before .before .before .found .given .1) (c .scan-meets .ensures)
 
 pub is-elsewhere-spec : {M : Type 1} → statement M

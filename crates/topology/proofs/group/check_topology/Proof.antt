@@ -1,20 +1,20 @@
 -- `topology::group::check_topology` meets its contract. The loop's invariant: the files before number `n` give nothing.
 -- Assumes nothing.
 use Prim.Native.Nat.{_-_}
-use mathlib.Core.List.{[]}
+use mathlib.Core.List.{map}
+use denote.Ref.{now}
 use borrow.Author.Needs.{needs}
-use Rattle.keys.specs.Delivery.{filesOf, deliveryOf}
+use Rattle.record.specs.Files.{filesOf, deliveryOf}
 use Rattle.topology.specs.Findings.{topologyIn, topologyFinding}
 use Rattle.keys.proofs.CellLaws.{Onward, files-start, files-more, files-here, files-end}
 use Rattle.topology.proofs.group.check_topology.Statement.{statement}
 use Rattle.topology.proofs.group.check_topology.Tie as tie
 
 abbrev Inv-loop : tie.InvT-loop
-Inv-loop ob-pun ob-lin tramo vertice nodo n₀ n =
-    Onward (topologyIn (deliveryOf (filesOf [] ob-pun [] ob-lin tramo vertice nodo))) n
+Inv-loop files n₀ n = Onward (topologyIn (deliveryOf (filesOf (map now files)))) n
 
 abbrev μ-loop : tie.MeasureT-loop
-μ-loop ob-pun ob-lin tramo vertice nodo n₀ n = 8 - n
+μ-loop files n₀ n = 8 - n
 
 loop-holds : tie.Need-loop-holds Inv-loop μ-loop
 loop-holds c = files-start _

@@ -2,7 +2,6 @@
 -- Assumes nothing.
 use native.Mathlib.Omega.{arith}
 use borrow.Author.Needs.{needs}
-use Rattle.topology.specs.Rules.{fiftyReasons}
 use Rattle.topology.proofs.FiftyLaws.{index-under, reason-54, reason-else}
 use Rattle.topology.proofs.group.reason_in.Statement.{statement}
 use Rattle.topology.proofs.group.reason_in.Tie as tie
@@ -17,38 +16,30 @@ add-t7 : tie.Need-add-t7
 add-t7 c = omega (arith, c .or-first .ensures, index-under _ _ (c .before .place-before .ensures), c .before .before .before .before .pre)
 
 returns : tie.Need-returns
-unfolding fiftyReasons
 returns c = rw (c .match .keys1)
 
 returns-2 : tie.Need-returns-2
-unfolding fiftyReasons
 returns-2 c = rw (c .match .keys2)
 
 returns-3 : tie.Need-returns-3
-unfolding fiftyReasons
 returns-3 c = rw (c .match .keys3)
 
 returns-4 : tie.Need-returns-4
-unfolding fiftyReasons
 returns-4 c = rw (c .match .keys4)
 
 returns-5 : tie.Need-returns-5
 returns-5 c = reason-54 _ _ _ (c .before .before .match .keys5) (c .before .place-before .ensures) (c .or-first .ensures)
 
 returns-6 : tie.Need-returns-6
-unfolding fiftyReasons
 returns-6 c = rw (c .match .keys6)
 
 returns-7 : tie.Need-returns-7
-unfolding fiftyReasons
 returns-7 c = rw (c .match .keys7)
 
 returns-8 : tie.Need-returns-8
-unfolding fiftyReasons
 returns-8 c = rw (c .match .keys8)
 
 returns-9 : tie.Need-returns-9
-unfolding fiftyReasons
 returns-9 c = rw (c .match .keys9)
 
 returns-10 : tie.Need-returns-10

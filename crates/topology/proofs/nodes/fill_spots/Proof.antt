@@ -3,7 +3,7 @@
 use Prim.Native.Nat.{_-_}
 use Rattle.record.specs.declared.kind.Kind.the-variants.{Nodo}
 use Rattle.record.specs.Says.{tableOf}
-use Rattle.keys.proofs.ColumnLaws.{Filling, filling-none, filling-more, filling-all, read-fills}
+use Rattle.record.proofs.ColumnLaws.{Filling, filling-none, filling-more, filling-all, read-fills}
 use Rattle.topology.proofs.PlaceLaws.{spotAt}
 use native.Mathlib.Omega.{arith}
 use borrow.Author.Needs.{needs}

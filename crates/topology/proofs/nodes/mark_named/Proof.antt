@@ -6,7 +6,7 @@ use mathlib.Core.Path.{sym, _∙_}
 use lib.ListN.{getD}
 use Rattle.laws.specs.Find.{names}
 use Rattle.record.specs.Says.{tableOf}
-use Rattle.keys.specs.Delivery.{nameAt}
+use Rattle.record.specs.Names.{nameAt}
 use Rattle.topology.proofs.MarkLaws.{Marking, marking-none, marking-set, marking-keep, marking-end}
 use borrow.Author.Needs.{needs}
 use Rattle.topology.proofs.nodes.mark_named.Statement.{statement}

@@ -2,7 +2,7 @@
 -- Assumes nothing.
 use Rattle.keys.proofs.ReferLaws.{names-column}
 use Rattle.topology.proofs.MarkLaws.{sorted-column, marks-same}
-use Rattle.keys.proofs.ColumnLaws.{read-fills}
+use Rattle.record.proofs.ColumnLaws.{read-fills}
 use borrow.Author.Needs.{needs}
 use Rattle.topology.proofs.nodes.mark_names.Statement.{statement}
 use Rattle.topology.proofs.nodes.mark_names.Tie as tie

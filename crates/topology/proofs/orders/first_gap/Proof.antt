@@ -3,7 +3,7 @@
 use Rattle.index.proofs.OrderLaws.{sorts-room}
 use Rattle.keys.proofs.ReferLaws.{fills-room}
 use Rattle.topology.proofs.OrderRules.{found-column, gap-column}
-use Rattle.keys.proofs.ColumnLaws.{read-fills}
+use Rattle.record.proofs.ColumnLaws.{read-fills}
 use borrow.Author.Needs.{needs}
 use Rattle.topology.proofs.orders.first_gap.Statement.{statement}
 use Rattle.topology.proofs.orders.first_gap.Tie as tie

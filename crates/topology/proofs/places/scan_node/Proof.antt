@@ -6,7 +6,7 @@ use borrow.Author.Needs.{needs}
 use lib.Dec.{eqb}
 use Rattle.record.specs.declared.kind.Kind.the-variants.{Nodo}
 use Rattle.record.specs.Says.{tableOf}
-use Rattle.keys.specs.Delivery.{nameAt}
+use Rattle.record.specs.Names.{nameAt}
 use Rattle.keys.proofs.FoundLaws.{Passed, found-start, found-more, any-found, any-end}
 use Rattle.topology.specs.Rules.{xAt, yAt, nodeIn}
 use Rattle.topology.proofs.places.scan_node.Statement.{statement}
