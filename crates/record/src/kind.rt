@@ -15,7 +15,8 @@
 //   6 VERTICE, 54 bytes: 1 line id N10, 2 order N5, 3 sign A1, 4 X N9, 5 sign A1, 6 Y N10, 7 sign A1, 8 Z N8
 //   7 NODO, 50 bytes: 1 own id N10, 2 TIPO A1, 3 sign A1, 4 X N9, 5 sign A1, 6 Y N10, 7 sign A1, 8 Z N8
 ghost use mathlib.Core.Path.{_≡_};
-ghost use Rattle.record.specs.Table.{fieldsOf, lengthOf, keysOf, fileOf, letterOf, xField, whichOf, isN, isCode};
+ghost use Prim.Native.Nat.{_≤_};
+ghost use Rattle.record.specs.Table.{fieldsOf, mostFields, lengthOf, keysOf, fileOf, letterOf, xField, whichOf, isN, isCode};
 
 // How many kinds there are.
 pub const FILES: usize = 7;
@@ -190,6 +191,7 @@ impl Kind {
     // The field of X, 0 where it has none; Y is two fields after it, Z four.
     pub fn x_field(self) -> usize
         ensures { λ r. ⌜ r ≡ xField self ⌝ }
+        ensures small { λ r. ⌜ r ≤ mostFields ⌝ }
     {
         match self {
             Kind::Catalogo => 0,

@@ -4,6 +4,7 @@
 use Prim.Native.Nat.{ℕ}
 use mathlib.Core.Path.{_≡_, refl, sym, ap, ap₂, _∙_}
 use Rattle.record.specs.declared.kind.Kind.{Kind}
+use Rattle.record.specs.Table.{colAt, isFreeWord}
 use Rattle.record.specs.Files.{Delivery}
 use Rattle.record.specs.Names.{nameAt, keyOf}
 use Rattle.keys.specs.Groups.{Tests, Reasons, groupFinding, brokenBy, overFiles}
@@ -12,11 +13,11 @@ use Rattle.topology.specs.Rules.{placed, nodeIn, meets, breaks50, breaks
 use Rattle.topology.specs.Findings.{topologyIn, topologyFinding, topologyBroken}
 
 fifties-struck : (d : Delivery) → fifties (struck d) ≡ fifties d
-unfolding nameAt keyOf placed nodeIn meets breaks50 breaks51 startElsewhere breaks52 endElsewhere breaks53 samePlace placedBefore breaks54 pointElsewhere breaks55 nodeUsed breaks56 objectIdle breaks57 breaks59 fifties
+unfolding colAt isFreeWord nameAt keyOf placed nodeIn meets breaks50 breaks51 startElsewhere breaks52 endElsewhere breaks53 samePlace placedBefore breaks54 pointElsewhere breaks55 nodeUsed breaks56 objectIdle breaks57 breaks59 fifties
 fifties-struck d = refl
 
 reasons-struck : (d : Delivery) → fiftyReasons (struck d) ≡ fiftyReasons d
-unfolding samePlace fiftyReasons
+unfolding colAt isFreeWord samePlace fiftyReasons
 reasons-struck d = refl
 
 finding-struck : (d : Delivery) → topologyFinding (struck d) ≡ topologyFinding d

@@ -20,8 +20,8 @@ use Rattle.index.specs.Keys.{foundOf}
 use Rattle.record.specs.declared.kind.Kind.{Kind}
 use Rattle.record.specs.declared.kind.Kind.the-variants.{Catalogo, ObPun, ObLin, Tramo, Vertice, Nodo}
 use Rattle.record.specs.declared.reason.Reason.the-variants.{LongFile10, SamePlace54}
-use Rattle.record.specs.Table.{fileOf}
-use Rattle.record.proofs.TableLaws.{NoneOf, kinds, kind-at}
+use Rattle.record.specs.Table.{fileOf, kinds}
+use Rattle.record.proofs.TableLaws.{NoneOf, kind-at}
 use Rattle.record.specs.Says.{Table}
 use Rattle.record.specs.Files.{Delivery}
 use Rattle.keys.specs.Rules.{orFirst}

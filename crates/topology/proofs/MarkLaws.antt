@@ -14,6 +14,7 @@ use Rattle.laws.proofs.FindLaws.{index-same}
 use Rattle.index.specs.Keys.{foundOf}
 use Rattle.index.specs.Order.{Index, Sorts}
 use Rattle.index.specs.declared.Found.{Found}
+use Rattle.record.specs.Table.{limit}
 use Rattle.record.specs.machinery.Columns.{Fills}
 use Rattle.keys.proofs.ReferLaws.{fills-room}
 use Rattle.topology.specs.Places.{Marks}
@@ -21,11 +22,11 @@ use Rattle.topology.specs.Places.{Marks}
 -- THE LOOP: of n records the first i are marked where the test holds, and the array is else as it was
 pub record Marking (before : List ℕ) (test : ℕ → Bool) (n : ℕ) (after : List ℕ) (i : ℕ) : Type 0 where
   pub within : i ≤ n
-  pub long : length after ≡ 16384
+  pub long : length after ≡ limit
   pub marked : (j : ℕ) → j < i → eqb (getD after j 0) 0 ≡ (eqb (getD before j 0) 0 && not (test j))
   pub rest : (j : ℕ) → i ≤ j → getD after j 0 ≡ getD before j 0
 
-pub marking-none : (before : List ℕ) (test : ℕ → Bool) (n : ℕ) → length before ≡ 16384 → Marking before test n before 0
+pub marking-none : (before : List ℕ) (test : ℕ → Bool) (n : ℕ) → length before ≡ limit → Marking before test n before 0
 marking-none before test n l =
     record { within = omega arith; long = l; marked = λ j u. absurd (omega arith); rest = λ j u. refl }
 
@@ -44,7 +45,7 @@ kept-here a b t e h = rw (e, h) (go (eqb b 0))
     go false = refl
 
 module _ {before : List ℕ} {test : ℕ → Bool} {n : ℕ} {after : List ℕ} {i : ℕ} (m : Marking before test n after i) where
-  pub marking-set : {now : List ℕ} → i < n → n ≤ 16384 → test i ≡ true → now ≡ set after i 1 → Marking before test n now (i + 1)
+  pub marking-set : {now : List ℕ} → i < n → n ≤ limit → test i ≡ true → now ≡ set after i 1 → Marking before test n now (i + 1)
   marking-set {now} l small here e =
       rw e
       record {
@@ -67,7 +68,7 @@ module _ {before : List ℕ} {test : ℕ → Bool} {n : ℕ} {after : List ℕ} 
         rest = λ j u. m .rest j (omega arith);
       }
 
-  pub marking-end : {k : ℕ} → length before ≡ 16384 → n ≤ i → n ≡ k → Marks before after test k
+  pub marking-end : {k : ℕ} → length before ≡ limit → n ≤ i → n ≡ k → Marks before after test k
   marking-end l u e = record { long = m .long ∙ sym l; marked = λ j v. m .marked j (omega arith) }
 
 -- AN INDEX of a column in an array: the sort has room
@@ -94,11 +95,11 @@ marks-then {a} {p = p} {q = q} m w =
 
 -- THE FIRST of n that is not marked, where at the start none was
 pub unmarked-first :
-    {after : List ℕ} {test : ℕ → Bool} {m n : ℕ} {r : Found} → Marks (replicate 16384 0) after test m → n ≤ 16384 → n ≡ m
+    {after : List ℕ} {test : ℕ → Bool} {m n : ℕ} {r : Found} → Marks (replicate limit 0) after test m → n ≤ limit → n ≡ m
     → r ≡ foundOf (firstIndex (λ i. eqb (getD after i 0) 0) n) → r ≡ foundOf (firstIndex (λ i. not (test i)) m)
 unmarked-first {test = test} {m = m} w small e h =
     h
     ∙ rw e
     (ap foundOf
     (index-same _ _ m
-    (λ i u. w .marked i u ∙ ap (λ (z : ℕ). eqb z 0 && not (test i)) (getD-replicate 16384 i 0 0 (omega arith)))))
+    (λ i u. w .marked i u ∙ ap (λ (z : ℕ). eqb z 0 && not (test i)) (getD-replicate limit i 0 0 (omega arith)))))

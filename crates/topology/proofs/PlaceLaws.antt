@@ -25,7 +25,7 @@ use Rattle.record.specs.machinery.Columns.{Fills}
 use Rattle.keys.specs.Rules.{repeats}
 use Rattle.keys.proofs.ReferLaws.{names-column}
 use Rattle.keys.proofs.FoundLaws.{any-of-nothing}
-use Rattle.keys.proofs.ColumnLaws.{repeat-filled}
+use Rattle.keys.proofs.RepeatLaws.{repeat-filled}
 use Rattle.topology.specs.Places.{positionOf, spotOf}
 use Rattle.topology.specs.Rules.{xAt, yAt, zAt, samePlace, placedBefore}
 

@@ -10,10 +10,10 @@ use Rattle.laws.specs.Find.{firstIndex, any, names}
 use Rattle.laws.specs.Row.{pick}
 use Rattle.index.specs.Look.{lineOf}
 use Rattle.record.specs.declared.kind.Kind.{Kind}
-use Rattle.record.specs.declared.kind.Kind.the-variants.{Catalogo, ObPun, ObTex, ObLin, Tramo, Vertice, Nodo}
+use Rattle.record.specs.declared.kind.Kind.the-variants.{ObPun, ObLin, Tramo, Vertice, Nodo}
 use Rattle.record.specs.declared.reason.Reason.{Reason}
 use Rattle.record.specs.declared.reason.Reason.the-variants as R
-use Rattle.record.specs.Table.{fileOf}
+use Rattle.record.specs.Table.{fileOf, xField}
 use Rattle.record.specs.Says.{Table, placeIn}
 use Rattle.record.specs.Files.{Delivery}
 use Rattle.record.specs.Names.{nameAt, vertexKey, keyOf}
@@ -23,17 +23,7 @@ use Rattle.keys.specs.Rules.{orFirst}
 abbrev pub isAt : Kind → ℕ → Kind → ℕ → Bool
 isAt file field k f = eqb (fileOf k) (fileOf file) && eqb f field
 
--- the fields of X: of a position's or centroid's six fields the second; Y is the fourth, Z the sixth. (Texts and centroids are held
--- against nothing; their fields stand here for completeness.)
-abbrev pub xField : Kind → ℕ
-xField Catalogo = 0
-xField ObPun = 9
-xField ObTex = 10
-xField ObLin = 6
-xField Tramo = 0
-xField Vertice = 4
-xField Nodo = 4
-
+-- X, Y and Z of record i, each as one number
 abbrev pub xAt : Kind → Table → ℕ → ℕ
 xAt k t i = placeIn (t .says i (xField k))
 

@@ -12,6 +12,7 @@ use record::columns::rows;
 use record::fill::fill_keys;
 use record::fill::fill_names;
 use record::kind::Kind;
+use record::kind::LIMIT;
 use record::names::name;
 use record::names::record_key;
 ghost use mathlib.Core.Path.{_≡_};
@@ -180,12 +181,12 @@ pub(crate) fn first_elsewhere<'a>(
 ) -> Found
     ensures { λ r. ⌜ r ≡ foundOf (firstIndex (apart end (tableOf (now (tramo .entry)) Kind.Tramo) (tableOf (now (vertice .entry)) Kind.Vertice) (tableOf (now (nodo .entry)) Kind.Nodo)) (tableOf (now (tramo .entry)) Kind.Tramo .count)) ⌝ }
 {
-    let mut keys = [0u64; 16384];
+    let mut keys = [0u64; LIMIT];
     let n = fill_keys(vertice, Kind::Vertice, &mut keys);
-    let mut order = [0usize; 16384];
-    let mut ids = [0u64; 16384];
+    let mut order = [0usize; LIMIT];
+    let mut ids = [0u64; LIMIT];
     let m = fill_names(nodo, Kind::Nodo, 1, &mut ids);
-    let mut ranks = [0usize; 16384];
+    let mut ranks = [0usize; LIMIT];
     if sort(&keys, &mut order, n) & sort(&ids, &mut ranks, m) {
         let mut vertices = [0u16; 32768];
         fill_hints(&keys, &mut vertices, n);
@@ -230,9 +231,9 @@ fn first_endless_in<'a>(tramo: &'a [u8], keys: &'a [u64], order: &'a [usize], n:
 pub(crate) fn first_endless<'a>(tramo: &'a [u8], vertice: &'a [u8]) -> Found
     ensures { λ r. ⌜ r ≡ foundOf (firstIndex (λ i. eqb (highest (tableOf (now (vertice .entry)) Kind.Vertice) (tramoLine (tableOf (now (tramo .entry)) Kind.Tramo) i)) 0) (tableOf (now (tramo .entry)) Kind.Tramo .count)) ⌝ }
 {
-    let mut keys = [0u64; 16384];
+    let mut keys = [0u64; LIMIT];
     let n = fill_keys(vertice, Kind::Vertice, &mut keys);
-    let mut order = [0usize; 16384];
+    let mut order = [0usize; LIMIT];
     if sort(&keys, &mut order, n) {
         first_endless_in(tramo, &keys, &order, n)
     } else {
@@ -272,9 +273,9 @@ fn first_astray_in<'a>(
 pub(crate) fn first_astray<'a>(ob_pun: &'a [u8], nodo: &'a [u8]) -> Found
     ensures { λ r. ⌜ r ≡ foundOf (firstIndex (pointElsewhere (tableOf (now («ob_pun» .entry)) Kind.ObPun) (tableOf (now (nodo .entry)) Kind.Nodo)) (tableOf (now («ob_pun» .entry)) Kind.ObPun .count)) ⌝ }
 {
-    let mut ids = [0u64; 16384];
+    let mut ids = [0u64; LIMIT];
     let m = fill_names(nodo, Kind::Nodo, 1, &mut ids);
-    let mut ranks = [0usize; 16384];
+    let mut ranks = [0usize; LIMIT];
     if sort(&ids, &mut ranks, m) {
         let mut nodes = [0u16; 32768];
         fill_hints(&ids, &mut nodes, m);

@@ -28,6 +28,7 @@ ghost use lib.ListN.{getD};
 ghost use Rattle.laws.specs.Find.{firstIndex};
 ghost use Rattle.index.specs.Keys.{foundOf};
 ghost use Rattle.topology.specs.Places.{orIndex};
+ghost use Rattle.record.specs.Table.{limit};
 ghost use Rattle.record.specs.Files.{filesOf, deliveryOf};
 ghost use Rattle.record.specs.Says.{tableOf};
 ghost use Rattle.keys.specs.Groups.{atFile};
@@ -92,7 +93,7 @@ fn or_first(found: Found) -> usize
 
 // The reason 50 + u with its data, for record i; only a node's has any.
 fn reason_in(u: usize, i: usize, nodo: &[u8]) -> Reason
-    requires { ⌜ i < 16384 ⌝ }
+    requires { ⌜ i < limit ⌝ }
     ensures { λ r. ⌜ r ≡ getD (reasonsAt (tableOf (now (nodo .entry)) Kind.Nodo) i) u Reason.LongFile10 ⌝ }
 {
     match u {

@@ -12,6 +12,7 @@ use index::twice::duplicate;
 use record::columns::rows;
 use record::fill::fill_names;
 use record::kind::Kind;
+use record::kind::LIMIT;
 use record::names::name;
 ghost use mathlib.Core.Path.{_≡_};
 ghost use mathlib.Core.Bool.{not, _||_};
@@ -23,6 +24,7 @@ ghost use Rattle.laws.specs.Find.{firstIndex, names};
 ghost use Rattle.laws.specs.Row.{pick};
 ghost use Rattle.index.specs.Keys.{foundOf};
 ghost use Rattle.index.specs.Order.{Index};
+ghost use Rattle.record.specs.Table.{limit};
 ghost use Rattle.record.specs.Says.{tableOf};
 ghost use Rattle.record.specs.machinery.Columns.{Fills};
 ghost use Rattle.record.specs.Names.{nameAt};
@@ -59,8 +61,8 @@ pub fn spot(x: u64, y: u64, z: u64) -> u64
     (x % 2147483648 * 4093082899 + y % 8589934583) % 68719476731 * 268435456 + z % 268435456
 }
 
-fn fill_spots(nodo: &[u8], out: &mut [u64; 16384]) -> usize
-    requires { ⌜ length (now out) ≡ 16384 ⌝ }
+fn fill_spots(nodo: &[u8], out: &mut [u64; LIMIT]) -> usize
+    requires { ⌜ length (now out) ≡ limit ⌝ }
     ensures { λ r. ⌜ Fills (now (out .exit)) (λ i. spotOf (xAt Kind.Nodo (tableOf (now (nodo .entry)) Kind.Nodo) i) (yAt Kind.Nodo (tableOf (now (nodo .entry)) Kind.Nodo) i) (zAt Kind.Nodo (tableOf (now (nodo .entry)) Kind.Nodo) i)) (tableOf (now (nodo .entry)) Kind.Nodo .count) r ⌝ }
 {
     let k = Kind::Nodo;
@@ -111,7 +113,7 @@ fn scan_repeat<'a>(nodo: &'a [u8], spots: &'a [u64], n: usize) -> Found
 pub(crate) fn first_repeat_place(nodo: &[u8]) -> Found
     ensures { λ r. ⌜ r ≡ foundOf (firstIndex (placedBefore (tableOf (now (nodo .entry)) Kind.Nodo)) (tableOf (now (nodo .entry)) Kind.Nodo .count)) ⌝ }
 {
-    let mut spots = [0u64; 16384];
+    let mut spots = [0u64; LIMIT];
     let n = fill_spots(nodo, &mut spots);
     let found = duplicate(&spots, n);
     match found {
@@ -129,9 +131,9 @@ fn mark_named<'a>(
     order: &'a [usize],
     hints: &'a [u16],
     n: usize,
-    used: &mut [u64; 16384],
+    used: &mut [u64; LIMIT],
 )
-    requires { ⌜ Index (now keys) (now order) n × (length (now used) ≡ 16384) ⌝ }
+    requires { ⌜ Index (now keys) (now order) n × (length (now used) ≡ limit) ⌝ }
     ensures { λ _. ⌜ Marks (now (used .entry)) (now (used .exit)) (λ i. names (λ j. getD (now (keys .entry)) j 0) n (nameAt k (tableOf (now (s .entry)) k) i f)) (tableOf (now (s .entry)) k .count) ⌝ }
 {
     let m = rows(s, k);
@@ -152,14 +154,14 @@ fn mark_names<'a>(
     to: &'a [u8],
     other: Kind,
     g: usize,
-    used: &mut [u64; 16384],
+    used: &mut [u64; LIMIT],
 )
-    requires { ⌜ length (now used) ≡ 16384 ⌝ }
+    requires { ⌜ length (now used) ≡ limit ⌝ }
     ensures { λ _. ⌜ Marks (now (used .entry)) (now (used .exit)) (λ i. names (λ j. nameAt other (tableOf (now («to» .entry)) other) j g) (tableOf (now («to» .entry)) other .count) (nameAt k (tableOf (now (s .entry)) k) i f)) (tableOf (now (s .entry)) k .count) ⌝ }
 {
-    let mut keys = [0u64; 16384];
+    let mut keys = [0u64; LIMIT];
     let n = fill_names(to, other, g, &mut keys);
-    let mut order = [0usize; 16384];
+    let mut order = [0usize; LIMIT];
     sort(&keys, &mut order, n);
     let mut hints = [0u16; 32768];
     fill_hints(&keys, &mut hints, n);
@@ -174,9 +176,9 @@ fn mark_placed<'a>(
     order: &'a [usize],
     hints: &'a [u16],
     n: usize,
-    used: &mut [u64; 16384],
+    used: &mut [u64; LIMIT],
 )
-    requires { ⌜ Index (now positions) (now order) n × Fills (now positions) (λ i. positionOf (xAt Kind.Vertice (tableOf (now vertice) Kind.Vertice) i) (yAt Kind.Vertice (tableOf (now vertice) Kind.Vertice) i)) (tableOf (now vertice) Kind.Vertice .count) n × (length (now used) ≡ 16384) ⌝ }
+    requires { ⌜ Index (now positions) (now order) n × Fills (now positions) (λ i. positionOf (xAt Kind.Vertice (tableOf (now vertice) Kind.Vertice) i) (yAt Kind.Vertice (tableOf (now vertice) Kind.Vertice) i)) (tableOf (now vertice) Kind.Vertice .count) n × (length (now used) ≡ limit) ⌝ }
     ensures { λ _. ⌜ Marks (now (used .entry)) (now (used .exit)) (λ i. placed Kind.Vertice (tableOf (now (vertice .entry)) Kind.Vertice) (tableOf (now (vertice .entry)) Kind.Vertice .count) (xAt Kind.Nodo (tableOf (now (nodo .entry)) Kind.Nodo) i) (yAt Kind.Nodo (tableOf (now (nodo .entry)) Kind.Nodo) i)) (tableOf (now (nodo .entry)) Kind.Nodo .count) ⌝ }
 {
     let m = rows(nodo, Kind::Nodo);
@@ -192,13 +194,13 @@ fn mark_placed<'a>(
 }
 
 // Marks the nodes at the X and Y of a vertex.
-fn mark_places<'a>(nodo: &'a [u8], vertice: &'a [u8], used: &mut [u64; 16384])
-    requires { ⌜ length (now used) ≡ 16384 ⌝ }
+fn mark_places<'a>(nodo: &'a [u8], vertice: &'a [u8], used: &mut [u64; LIMIT])
+    requires { ⌜ length (now used) ≡ limit ⌝ }
     ensures { λ _. ⌜ Marks (now (used .entry)) (now (used .exit)) (λ i. placed Kind.Vertice (tableOf (now (vertice .entry)) Kind.Vertice) (tableOf (now (vertice .entry)) Kind.Vertice .count) (xAt Kind.Nodo (tableOf (now (nodo .entry)) Kind.Nodo) i) (yAt Kind.Nodo (tableOf (now (nodo .entry)) Kind.Nodo) i)) (tableOf (now (nodo .entry)) Kind.Nodo .count) ⌝ }
 {
-    let mut positions = [0u64; 16384];
+    let mut positions = [0u64; LIMIT];
     let n = fill_positions(vertice, Kind::Vertice, &mut positions);
-    let mut order = [0usize; 16384];
+    let mut order = [0usize; LIMIT];
     sort(&positions, &mut order, n);
     let mut hints = [0u16; 32768];
     fill_hints(&positions, &mut hints, n);
@@ -206,8 +208,8 @@ fn mark_places<'a>(nodo: &'a [u8], vertice: &'a [u8], used: &mut [u64; 16384])
 }
 
 // The first of n that is not marked.
-fn first_unmarked(used: &[u64; 16384], n: usize) -> Found
-    requires { ⌜ (n ≤ 16384) × (length (now used) ≡ 16384) ⌝ }
+fn first_unmarked(used: &[u64; LIMIT], n: usize) -> Found
+    requires { ⌜ (n ≤ limit) × (length (now used) ≡ limit) ⌝ }
     ensures { λ r. ⌜ r ≡ foundOf (firstIndex (λ i. eqb (getD (now (used .entry)) i 0) 0) n) ⌝ }
 {
     let mut i = 0;
@@ -229,7 +231,7 @@ pub(crate) fn first_idle_node<'a>(
 ) -> Found
     ensures { λ r. ⌜ r ≡ foundOf (firstIndex (λ i. not (nodeUsed (tableOf (now («ob_pun» .entry)) Kind.ObPun) (tableOf (now (tramo .entry)) Kind.Tramo) (tableOf (now (vertice .entry)) Kind.Vertice) (tableOf (now (nodo .entry)) Kind.Nodo) i)) (tableOf (now (nodo .entry)) Kind.Nodo .count)) ⌝ }
 {
-    let mut used = [0u64; 16384];
+    let mut used = [0u64; LIMIT];
     mark_names(nodo, Kind::Nodo, 1, tramo, Kind::Tramo, 6, &mut used);
     mark_names(nodo, Kind::Nodo, 1, tramo, Kind::Tramo, 7, &mut used);
     mark_places(nodo, vertice, &mut used);
@@ -241,7 +243,7 @@ pub(crate) fn first_idle_node<'a>(
 pub(crate) fn first_idle_object<'a>(ob_lin: &'a [u8], tramo: &'a [u8]) -> Found
     ensures { λ r. ⌜ r ≡ foundOf (firstIndex (objectIdle (tableOf (now («ob_lin» .entry)) Kind.ObLin) (tableOf (now (tramo .entry)) Kind.Tramo)) (tableOf (now («ob_lin» .entry)) Kind.ObLin .count)) ⌝ }
 {
-    let mut used = [0u64; 16384];
+    let mut used = [0u64; LIMIT];
     mark_names(ob_lin, Kind::ObLin, 1, tramo, Kind::Tramo, 2, &mut used);
     first_unmarked(&used, rows(ob_lin, Kind::ObLin))
 }

@@ -5,6 +5,7 @@ use index::hint::has_hinted;
 use index::order::sort;
 use record::fill::fill_keys;
 use record::kind::Kind;
+use record::kind::LIMIT;
 ghost use mathlib.Core.Path.{_≡_};
 ghost use Prim.Native.Nat.{ℕ, _≤_, _<_, _^_};
 ghost use lib.ListN.{length, getD};
@@ -74,9 +75,9 @@ fn first_alone_in<'a>(keys: &'a [u64], order: &'a [usize], hints: &'a [u16], n: 
 pub(crate) fn first_gap(vertice: &[u8]) -> Found
     ensures { λ r. ⌜ r ≡ foundOf (firstIndex (gap (keyOf Kind.Vertice (tableOf (now (vertice .entry)) Kind.Vertice)) (tableOf (now (vertice .entry)) Kind.Vertice .count)) (tableOf (now (vertice .entry)) Kind.Vertice .count)) ⌝ }
 {
-    let mut keys = [0u64; 16384];
+    let mut keys = [0u64; LIMIT];
     let n = fill_keys(vertice, Kind::Vertice, &mut keys);
-    let mut order = [0usize; 16384];
+    let mut order = [0usize; LIMIT];
     if sort(&keys, &mut order, n) {
         let mut hints = [0u16; 32768];
         fill_hints(&keys, &mut hints, n);
@@ -90,9 +91,9 @@ pub(crate) fn first_gap(vertice: &[u8]) -> Found
 pub(crate) fn first_alone(vertice: &[u8]) -> Found
     ensures { λ r. ⌜ r ≡ foundOf (firstIndex (alone (keyOf Kind.Vertice (tableOf (now (vertice .entry)) Kind.Vertice)) (tableOf (now (vertice .entry)) Kind.Vertice .count)) (tableOf (now (vertice .entry)) Kind.Vertice .count)) ⌝ }
 {
-    let mut keys = [0u64; 16384];
+    let mut keys = [0u64; LIMIT];
     let n = fill_keys(vertice, Kind::Vertice, &mut keys);
-    let mut order = [0usize; 16384];
+    let mut order = [0usize; LIMIT];
     if sort(&keys, &mut order, n) {
         let mut hints = [0u16; 32768];
         fill_hints(&keys, &mut hints, n);

@@ -4,6 +4,7 @@ use index::hint::find_hinted;
 use record::columns::place;
 use record::columns::rows;
 use record::kind::Kind;
+use record::kind::LIMIT;
 use record::names::name;
 ghost use mathlib.Core.Path.{_≡_};
 ghost use mathlib.Core.Bool.{_&&_};
@@ -11,48 +12,32 @@ ghost use Prim.Native.Nat.{ℕ, _+_, _*_, _%_, _≤_, _<_, _^_};
 ghost use lib.Dec.{eqb};
 ghost use lib.ListN.{length, getD};
 ghost use Rattle.index.specs.Order.{Index};
+ghost use Rattle.record.specs.Table.{limit};
 ghost use Rattle.record.specs.Says.{tableOf};
 ghost use Rattle.record.specs.machinery.Columns.{Fills};
 ghost use Rattle.record.specs.Names.{nameAt};
 ghost use Rattle.topology.specs.Rules.{xAt, yAt, zAt, placed, nodeIn};
-ghost use Rattle.record.specs.Table.{xField};
 ghost use Rattle.topology.specs.Places.{positionOf};
-
-// The field of X; Y is two fields after it, Z four.
-pub(crate) fn x_field(k: Kind) -> usize
-    ensures { λ r. ⌜ r ≡ xField k ⌝ }
-    ensures small { λ r. ⌜ r ≤ 10 ⌝ }
-{
-    match k {
-        Kind::Catalogo => 0,
-        Kind::ObPun => 9,
-        Kind::ObTex => 10,
-        Kind::ObLin => 6,
-        Kind::Tramo => 0,
-        Kind::Vertice => 4,
-        Kind::Nodo => 4,
-    }
-}
 
 pub(crate) fn x_at(s: &[u8], k: Kind, i: usize) -> u64
     ensures { λ r. ⌜ r ≡ xAt k (tableOf (now (s .entry)) k) i ⌝ }
     ensures narrow { λ r. ⌜ r < 2 ^ 40 ⌝ }
 {
-    place(s, k, i, x_field(k))
+    place(s, k, i, k.x_field())
 }
 
 pub(crate) fn y_at(s: &[u8], k: Kind, i: usize) -> u64
     ensures { λ r. ⌜ r ≡ yAt k (tableOf (now (s .entry)) k) i ⌝ }
     ensures narrow { λ r. ⌜ r < 2 ^ 40 ⌝ }
 {
-    place(s, k, i, x_field(k) + 2)
+    place(s, k, i, k.x_field() + 2)
 }
 
 pub(crate) fn z_at(s: &[u8], k: Kind, i: usize) -> u64
     ensures { λ r. ⌜ r ≡ zAt k (tableOf (now (s .entry)) k) i ⌝ }
     ensures narrow { λ r. ⌜ r < 2 ^ 40 ⌝ }
 {
-    place(s, k, i, x_field(k) + 4)
+    place(s, k, i, k.x_field() + 4)
 }
 
 // Whether record j is at X and Y.
@@ -126,8 +111,8 @@ pub(crate) fn position(x: u64, y: u64) -> u64
 }
 
 // The position of each record of the file.
-pub(crate) fn fill_positions(s: &[u8], k: Kind, out: &mut [u64; 16384]) -> usize
-    requires { ⌜ length (now out) ≡ 16384 ⌝ }
+pub(crate) fn fill_positions(s: &[u8], k: Kind, out: &mut [u64; LIMIT]) -> usize
+    requires { ⌜ length (now out) ≡ limit ⌝ }
     ensures { λ r. ⌜ Fills (now (out .exit)) (λ i. positionOf (xAt k (tableOf (now (s .entry)) k) i) (yAt k (tableOf (now (s .entry)) k) i)) (tableOf (now (s .entry)) k .count) r ⌝ }
 {
     let n = rows(s, k);
