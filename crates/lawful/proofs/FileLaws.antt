@@ -20,10 +20,10 @@ use Rattle.record.specs.declared.kind.Kind.{Kind}
 use Rattle.record.specs.declared.kind.Kind.the-variants.{Catalogo, ObPun, Vertice, Nodo}
 use Rattle.record.specs.Says.{Table, letterIn}
 use Rattle.keys.specs.Columns.{Fills}
-use Rattle.keys.specs.Delivery.{Delivery, nameAt}
+use Rattle.keys.specs.Delivery.{nameAt, keyOf}
 use Rattle.keys.specs.Rules.{repeats, dangles, typedIn}
 use Rattle.keys.proofs.ReferLaws.{names-column, dangles-filled, dangles-missing, dangles-named, none-dangles-filled}
-use Rattle.topology.specs.Rules.{xAt, yAt, nodeIn, placed, meets, vertex, elsewhere, pointElsewhere}
+use Rattle.topology.specs.Rules.{xAt, yAt, nodeIn, placed, meets, elsewhere, pointElsewhere}
 use Rattle.topology.proofs.EndLaws.{astray-free, astray-named}
 use Rattle.lawful.specs.Shown.{tagged, stands, placedIn, Met, Spots}
 use Rattle.lawful.proofs.ListLaws.{stands-names}
@@ -108,42 +108,42 @@ placed-column k t {xs} {ys} {n} e spots x y h =
     any-true _ (t .count) l (rw (← spots .x (s .0) l, ← spots .y (s .0) l) (s .2))
 
 -- A VERTEX that meets a node, where the node's columns and the vertices' are in hand
-module _ (d : Delivery) {keys xs ys ids nx ny : List ℕ} {n m : ℕ} (keys-in : Fills keys (vertex d) (d Vertice .count) n) (vertices : Spots Vertice xs ys (d Vertice))
-    (ids-in : Fills ids (λ j. nameAt Nodo (d Nodo) j 1) (d Nodo .count) m) (nodes : Spots Nodo nx ny (d Nodo)) where
-  pub met-meets : (key name : ℕ) → Met keys xs ys n key ids nx ny m name → meets d key name ≡ true
+module _ (vertice nodo : Table) {keys xs ys ids nx ny : List ℕ} {n m : ℕ} (keys-in : Fills keys (keyOf Vertice vertice) (vertice .count) n) (vertices : Spots Vertice xs ys vertice)
+    (ids-in : Fills ids (λ j. nameAt Nodo nodo j 1) (nodo .count) m) (nodes : Spots Nodo nx ny nodo) where
+  pub met-meets : (key name : ℕ) → Met keys xs ys n key ids nx ny m name → meets vertice nodo key name ≡ true
   unfolding Met meets
   met-meets key name h =
       let j = h .0 in
-      let l : j < d Vertice .count = omega (arith, h .1, keys-in .count) in
-      any-true _ (d Vertice .count) l
+      let l : j < vertice .count = omega (arith, h .1, keys-in .count) in
+      any-true _ (vertice .count) l
       (true-and _ _ (eq-eqb _ _ (sym (keys-in .holds j l) ∙ h .2))
-      (rw (← vertices .x j l, ← vertices .y j l) (stands-node (d Nodo) ids-in nodes name _ _ (h .3))))
+      (rw (← vertices .x j l, ← vertices .y j l) (stands-node nodo ids-in nodes name _ _ (h .3))))
 
-  pub met-here : (key name : ℕ) → Met keys xs ys n key ids nx ny m name → elsewhere d key name ≡ false
-  met-here key name h = rw (met-meets key name h) (and-not (names (vertex d) (d Vertice .count) key))
+  pub met-here : (key name : ℕ) → Met keys xs ys n key ids nx ny m name → elsewhere vertice nodo key name ≡ false
+  met-here key name h = rw (met-meets key name h) (and-not (names (keyOf Vertice vertice) (vertice .count) key))
     where
       and-not : (b : Bool) → (b && false) ≡ false
       and-not true = refl
       and-not false = refl
 
   -- and so it is named
-  pub met-named : (key name : ℕ) → Met keys xs ys n key ids nx ny m name → dangles (λ j. nameAt Nodo (d Nodo) j 1) (d Nodo .count) name ≡ false
+  pub met-named : (key name : ℕ) → Met keys xs ys n key ids nx ny m name → dangles (λ j. nameAt Nodo nodo j 1) (nodo .count) name ≡ false
   unfolding Met
   met-named key name h = named-column ids-in name (stands-names ids nx ny m name _ _ (h .3))
 
 -- A POINT OBJECT that names no node or is where its node is
-module _ (d : Delivery) {ids nx ny : List ℕ} {m : ℕ} (ids-in : Fills ids (λ j. nameAt Nodo (d Nodo) j 1) (d Nodo .count) m) (nodes : Spots Nodo nx ny (d Nodo)) (i : ℕ) {a : ℕ}
-    (e : a ≡ nameAt ObPun (d ObPun) i 3) (h : (a ≡ 0 → ⊥) → stands ids nx ny m a (xAt ObPun (d ObPun) i) (yAt ObPun (d ObPun) i) ≡ true) where
-  pub point-here : pointElsewhere d i ≡ false
+module _ (pun nodo : Table) {ids nx ny : List ℕ} {m : ℕ} (ids-in : Fills ids (λ j. nameAt Nodo nodo j 1) (nodo .count) m) (nodes : Spots Nodo nx ny nodo) (i : ℕ) {a : ℕ}
+    (e : a ≡ nameAt ObPun pun i 3) (h : (a ≡ 0 → ⊥) → stands ids nx ny m a (xAt ObPun pun i) (yAt ObPun pun i) ≡ true) where
+  pub point-here : pointElsewhere pun nodo i ≡ false
   point-here = go (ℕ-discrete a 0)
     where
-      go : Dec (a ≡ 0) → pointElsewhere d i ≡ false
-      go (yes z) = astray-free d i e z
-      go (no z) = astray-named d i e z refl refl (sym (stands-node (d Nodo) ids-in nodes a _ _ (h z)))
+      go : Dec (a ≡ 0) → pointElsewhere pun nodo i ≡ false
+      go (yes z) = astray-free pun nodo i e z
+      go (no z) = astray-named pun nodo i e z refl refl (sym (stands-node nodo ids-in nodes a _ _ (h z)))
 
-  pub point-named : dangles (λ j. nameAt Nodo (d Nodo) j 1) (d Nodo .count) (nameAt ObPun (d ObPun) i 3) ≡ false
+  pub point-named : dangles (λ j. nameAt Nodo nodo j 1) (nodo .count) (nameAt ObPun pun i 3) ≡ false
   point-named = rw (← e) (go (ℕ-discrete a 0))
     where
-      go : Dec (a ≡ 0) → dangles (λ j. nameAt Nodo (d Nodo) j 1) (d Nodo .count) a ≡ false
+      go : Dec (a ≡ 0) → dangles (λ j. nameAt Nodo nodo j 1) (nodo .count) a ≡ false
       go (yes z) = dangles-missing _ _ a z
       go (no z) = named-column ids-in a (stands-names ids nx ny m a _ _ (h z))

@@ -17,10 +17,10 @@ use Rattle.record.specs.declared.kind.Kind.{Kind}
 use Rattle.record.specs.declared.kind.Kind.the-variants.{Catalogo, ObPun, ObTex, ObLin, Tramo, Vertice, Nodo}
 use Rattle.record.specs.Says.{Table, letterIn, placeIn}
 use Rattle.keys.specs.Columns.{Fills}
-use Rattle.keys.specs.Delivery.{Delivery, nameAt, keyOf, typeOf}
+use Rattle.keys.specs.Delivery.{nameAt, keyOf, typeOf}
 use Rattle.keys.specs.Rules.{dangles}
 use Rattle.keys.proofs.ReferLaws.{names-column, dangles-filled}
-use Rattle.topology.specs.Rules.{xAt, yAt, vertex, highest, highestIn, tramoLine, tramoStart, tramoEnd, startElsewhere, endElsewhere, placed, placedBefore, nodeUsed}
+use Rattle.topology.specs.Rules.{xAt, yAt, highest, highestIn, tramoLine, tramoStart, tramoEnd, startElsewhere, endElsewhere, placed, placedBefore, nodeUsed}
 use Rattle.topology.specs.Places.{spotOf}
 use Rattle.topology.proofs.PlaceLaws.{spotAt, spot-new}
 use Rattle.topology.proofs.OrderRules.{gap-column, alone-column}
@@ -125,29 +125,29 @@ held-all ids starts ends points xs ys nx ny t p n m k a b c rest i l =
     one-of _ _ _ _ (⊎-elim (λ e. inl (e ∙ zeros-at k i)) (λ h. inr h) (a .only i)) (b .only i) (c .only i) (rest i l)
 
 -- NODES, with their columns and the vertices'
-module _ (d : Delivery) {ids nx ny xs ys starts ends points : List ℕ} {m n t r p : ℕ} (ids-in : Fills ids (λ j. nameAt Nodo (d Nodo) j 1) (d Nodo .count) m)
-    (nodes : Spots Nodo nx ny (d Nodo)) (vertices : Spots Vertice xs ys (d Vertice)) (all : n ≡ d Vertice .count) (starts-in : Fills starts (tramoStart d) (d Tramo .count) t)
-    (ends-in' : Fills ends (tramoEnd d) (d Tramo .count) r) (points-in : Fills points (λ j. nameAt ObPun (d ObPun) j 3) (d ObPun .count) p) where
+module _ (pun tramo vertice nodo : Table) {ids nx ny xs ys starts ends points : List ℕ} {m n t r p : ℕ} (ids-in : Fills ids (λ j. nameAt Nodo nodo j 1) (nodo .count) m)
+    (nodes : Spots Nodo nx ny nodo) (vertices : Spots Vertice xs ys vertice) (all : n ≡ vertice .count) (starts-in : Fills starts (tramoStart tramo) (tramo .count) t)
+    (ends-in' : Fills ends (tramoEnd tramo) (tramo .count) r) (points-in : Fills points (λ j. nameAt ObPun pun j 3) (pun .count) p) where
   used-node :
-      AllHeld ids nx ny m starts ends t points p xs ys n → (i : ℕ) → i < d Nodo .count → nodeUsed d i ≡ true
+      AllHeld ids nx ny m starts ends t points p xs ys n → (i : ℕ) → i < nodo .count → nodeUsed pun tramo vertice nodo i ≡ true
   unfolding heldIn AllHeld nodeUsed
   used-node held i l =
       let h = held i (omega (arith, ids-in .count)) in
       let a = names-column starts-in (getD ids i 0) in
       let b = names-column (fills-at ends-in' (starts-in .count)) (getD ids i 0) in
       let c = names-column points-in (getD ids i 0) in
-      more (names (tramoStart d) (d Tramo .count) (nameAt Nodo (d Nodo) i 1)) (names (tramoEnd d) (d Tramo .count) (nameAt Nodo (d Nodo) i 1))
-      (placedIn xs ys n (getD nx i 0) (getD ny i 0)) (placed Vertice (d Vertice) (d Vertice .count) (xAt Nodo (d Nodo) i) (yAt Nodo (d Nodo) i))
-      (names (λ j. nameAt ObPun (d ObPun) j 3) (d ObPun .count) (nameAt Nodo (d Nodo) i 1))
-      (λ h. placed-column Vertice (d Vertice) all vertices _ _ (rw (nodes .x i l, nodes .y i l) at h)) (rw (a, b, c, ids-in .holds i l) at h)
+      more (names (tramoStart tramo) (tramo .count) (nameAt Nodo nodo i 1)) (names (tramoEnd tramo) (tramo .count) (nameAt Nodo nodo i 1))
+      (placedIn xs ys n (getD nx i 0) (getD ny i 0)) (placed Vertice vertice (vertice .count) (xAt Nodo nodo i) (yAt Nodo nodo i))
+      (names (λ j. nameAt ObPun pun j 3) (pun .count) (nameAt Nodo nodo i 1))
+      (λ h. placed-column Vertice vertice all vertices _ _ (rw (nodes .x i l, nodes .y i l) at h)) (rw (a, b, c, ids-in .holds i l) at h)
 
   pub used-all :
-      ((i : ℕ) → i < p → (getD points i 0 ≡ 0 → ⊥) → stands ids nx ny m (getD points i 0) (xAt ObPun (d ObPun) i) (yAt ObPun (d ObPun) i) ≡ true)
-      → AllHeld ids nx ny m starts ends t points p xs ys n → Used d
+      ((i : ℕ) → i < p → (getD points i 0 ≡ 0 → ⊥) → stands ids nx ny m (getD points i 0) (xAt ObPun pun i) (yAt ObPun pun i) ≡ true)
+      → AllHeld ids nx ny m starts ends t points p xs ys n → Used pun tramo vertice nodo
   used-all meet held =
       record {
-        named = λ i l. point-named d ids-in nodes i (points-in .holds i l) (meet i (omega (arith, points-in .count)));
-        points = λ i l. point-here d ids-in nodes i (points-in .holds i l) (meet i (omega (arith, points-in .count)));
+        named = λ i l. point-named pun nodo ids-in nodes i (points-in .holds i l) (meet i (omega (arith, points-in .count)));
+        points = λ i l. point-here pun nodo ids-in nodes i (points-in .holds i l) (meet i (omega (arith, points-in .count)));
         held = used-node held;
       }
 
@@ -160,34 +160,34 @@ noded-all t ids-in differ apart = record { ids = differ-column (λ j. nameAt Nod
 
 -- LINES, with the columns of vertices, tramos and nodes
 pub lined-all :
-    (d : Delivery) {keys xs ys lines starts ends ids nx ny : List ℕ} {n t m : ℕ} → Fills keys (keyOf Vertice (d Vertice)) (d Vertice .count) n
-    → Spots Vertice xs ys (d Vertice) → Fills lines (λ j. nameAt Tramo (d Tramo) j 4) (d Tramo .count) t → Ends starts ends (d Tramo)
-    → Fills ids (λ j. nameAt Nodo (d Nodo) j 1) (d Nodo .count) m → Spots Nodo nx ny (d Nodo) → firstDuplicate (listed keys) n ≡ none
+    (tramo vertice nodo : Table) {keys xs ys lines starts ends ids nx ny : List ℕ} {n t m : ℕ} → Fills keys (keyOf Vertice vertice) (vertice .count) n
+    → Spots Vertice xs ys vertice → Fills lines (λ j. nameAt Tramo tramo j 4) (tramo .count) t → Ends starts ends tramo
+    → Fills ids (λ j. nameAt Nodo nodo j 1) (nodo .count) m → Spots Nodo nx ny nodo → firstDuplicate (listed keys) n ≡ none
     → ((i : ℕ) → i < n → Numbered keys n i)
-    → ((i : ℕ) → i < d Vertice .count → dangles (listed lines) t (nameAt Vertice (d Vertice) i 1) ≡ false)
-    → ((i : ℕ) → i < t → dangles (λ j. nameAt Vertice (d Vertice) j 1) (d Vertice .count) (getD lines i 0) ≡ false)
+    → ((i : ℕ) → i < vertice .count → dangles (listed lines) t (nameAt Vertice vertice i 1) ≡ false)
+    → ((i : ℕ) → i < t → dangles (λ j. nameAt Vertice vertice j 1) (vertice .count) (getD lines i 0) ≡ false)
     → AllMet lines starts ends t keys xs ys n ids nx ny m
-    → Lined d
+    → Lined tramo vertice nodo
 unfolding Numbered startElsewhere endElsewhere
-lined-all d {keys} {lines = lines} {n = n} {t} keys-in vertices lines-in tips ids-in nodes differ numbered used named met =
+lined-all tramo vertice nodo {keys} {lines = lines} {n = n} {t} keys-in vertices lines-in tips ids-in nodes differ numbered used named met =
     record {
-      keys = differ-column (keyOf Vertice (d Vertice)) keys-in differ;
+      keys = differ-column (keyOf Vertice vertice) keys-in differ;
       line = λ i l. rw (← lines-in .holds i l) (named i (within i l));
-      used = λ i l. sym (dangles-filled lines-in (nameAt Vertice (d Vertice) i 1)) ∙ used i l;
-      start = λ i l. rw (← tips .start i l) (met-named d keys-in vertices ids-in nodes _ _ (met .firsts i (within i l)));
-      last = λ i l. rw (← tips .last i l) (met-named d keys-in vertices ids-in nodes _ _ (met .lasts i (within i l) .1));
+      used = λ i l. sym (dangles-filled lines-in (nameAt Vertice vertice i 1)) ∙ used i l;
+      start = λ i l. rw (← tips .start i l) (met-named vertice nodo keys-in vertices ids-in nodes _ _ (met .firsts i (within i l)));
+      last = λ i l. rw (← tips .last i l) (met-named vertice nodo keys-in vertices ids-in nodes _ _ (met .lasts i (within i l) .1));
       unbroken = λ i l. sym (gap-column keys-in i l) ∙ numbered i (omega (arith, keys-in .count)) .0;
       paired = λ i l. sym (alone-column keys-in i l) ∙ numbered i (omega (arith, keys-in .count)) .1;
-      starts = λ i l. rw (← lines-in .holds i l, ← tips .start i l) (met-here d keys-in vertices ids-in nodes _ _ (met .firsts i (within i l)));
-      ends = λ i l. rw (← high i l, ← tips .last i l) (met-here d keys-in vertices ids-in nodes _ _ (met .lasts i (within i l) .1));
-      ended = λ i l. ne-eqb (highest d (tramoLine d i)) 0 (λ z. let p = met .lasts i (within i l) .0 in omega (arith, high i l, z));
+      starts = λ i l. rw (← lines-in .holds i l, ← tips .start i l) (met-here vertice nodo keys-in vertices ids-in nodes _ _ (met .firsts i (within i l)));
+      ends = λ i l. rw (← high i l, ← tips .last i l) (met-here vertice nodo keys-in vertices ids-in nodes _ _ (met .lasts i (within i l) .1));
+      ended = λ i l. ne-eqb (highest vertice (tramoLine tramo i)) 0 (λ z. let p = met .lasts i (within i l) .0 in omega (arith, high i l, z));
     }
   where
-    within : (i : ℕ) → i < d Tramo .count → i < t
+    within : (i : ℕ) → i < tramo .count → i < t
     within i l = omega (arith, lines-in .count)
 
-    high : (i : ℕ) → i < d Tramo .count → highestIn (listed keys) (getD lines i 0) n ≡ highest d (tramoLine d i)
-    high i l = highest-column keys-in (getD lines i 0) ∙ ap (λ (x : ℕ). highestIn (vertex d) x (d Vertice .count)) (lines-in .holds i l)
+    high : (i : ℕ) → i < tramo .count → highestIn (listed keys) (getD lines i 0) n ≡ highest vertice (tramoLine tramo i)
+    high i l = highest-column keys-in (getD lines i 0) ∙ ap (λ (x : ℕ). highestIn (keyOf Vertice vertice) x (vertice .count)) (lines-in .holds i l)
 
 -- NODES APART: where no spot is repeated, none is at an earlier one's place
 pub apart-all :

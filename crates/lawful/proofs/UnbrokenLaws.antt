@@ -2,7 +2,6 @@
 -- Assumes nothing.
 use Prim.Native.Nat.{ℕ, zero, suc, _<_}
 use mathlib.Core.Bool.{Bool, true, false, not, _&&_}
-use mathlib.Core.List.{List, []}
 use mathlib.Core.Path.{_≡_, refl, ap, subst}
 use lib.Dec.{eqb}
 use lib.ListN.{getD}
@@ -14,9 +13,9 @@ use Rattle.record.specs.declared.kind.Kind.{Kind}
 use Rattle.record.specs.declared.kind.Kind.the-variants.{Catalogo, ObPun, ObTex, ObLin, Tramo, Vertice, Nodo}
 use Rattle.record.specs.Says.{Table}
 use Rattle.record.specs.Table.{keysOf}
-use Rattle.keys.specs.Delivery.{Delivery, filesOf, deliveryOf, nameAt, targetOf, typeOf}
+use Rattle.keys.specs.Delivery.{Delivery, nameAt, targetOf, typeOf}
 use Rattle.keys.specs.Rules.{repeats, breaks30, dangles, breaks40, typedIn, mistyped, refersToCatalogue, breaks41, keyTests}
-use Rattle.topology.specs.Rules.{isAt, meets, startElsewhere, endElsewhere, pointElsewhere, nodeUsed, objectIdle, breaks50, breaks51, breaks52, breaks53, breaks54, breaks55, breaks56, breaks57, breaks59, fifties}
+use Rattle.topology.specs.Rules.{isAt, objectIdle, breaks50, breaks51, breaks52, breaks53, breaks54, breaks55, breaks56, breaks57, breaks59, fifties}
 use Rattle.topology.proofs.FiftyLaws.{read-at}
 use Rattle.lawful.specs.Shown.{Distinct, Catalogued, Rest, Objects, Lined, Used, Noded, Unbroken}
 
@@ -46,30 +45,9 @@ pub record Parts (d : Delivery) : Type 0 where
   pub rest : Rest (d ObPun) (d ObTex) (d ObLin) (d Tramo)
   pub catalogue : Catalogued (d Catalogo) (d ObPun) (d ObTex) (d ObLin) (d Tramo)
   pub objects : Objects (d ObLin) (d Tramo)
-  pub lines : Lined d
-  pub used : Used d
+  pub lines : Lined (d Tramo) (d Vertice) (d Nodo)
+  pub used : Used (d ObPun) (d Tramo) (d Vertice) (d Nodo)
   pub nodes : Noded (d Nodo)
-
--- lines and nodes shown of their files alone
-pub wide-lined : (a b c d e f g : List ℕ) → Lined (deliveryOf (filesOf [] [] [] [] e f g)) → Lined (deliveryOf (filesOf a b c d e f g))
-unfolding meets startElsewhere endElsewhere
-wide-lined a b c d e f g l =
-    record {
-      keys = l .keys;
-      line = l .line;
-      used = l .used;
-      start = l .start;
-      last = l .last;
-      unbroken = l .unbroken;
-      paired = l .paired;
-      starts = l .starts;
-      ends = l .ends;
-      ended = l .ended;
-    }
-
-pub wide-used : (a b c d e f g : List ℕ) → Used (deliveryOf (filesOf [] b [] [] e f g)) → Used (deliveryOf (filesOf a b c d e f g))
-unfolding pointElsewhere nodeUsed
-wide-used a b c d e f g u = record { named = u .named; points = u .points; held = u .held }
 
 module _ (d : Delivery) (p : Parts d) where
   distinct-all : (k : Kind) → Distinct k (d k)

@@ -18,7 +18,7 @@ use Rattle.record.specs.declared.kind.Kind.the-variants.{Catalogo, ObPun, ObTex
 use Rattle.record.specs.Says.{Table}
 use Rattle.keys.specs.Delivery.{Delivery, nameAt, vertexKey, keyOf, typeOf}
 use Rattle.keys.specs.Rules.{repeats, dangles, typedIn, keyTests}
-use Rattle.topology.specs.Rules.{xAt, yAt, gap, alone, vertex, highestIn, highest, tramoLine, startElsewhere, endElsewhere, placedBefore, pointElsewhere, nodeUsed, fifties}
+use Rattle.topology.specs.Rules.{xAt, yAt, gap, alone, highestIn, highest, tramoLine, startElsewhere, endElsewhere, placedBefore, pointElsewhere, nodeUsed, fifties}
 
 -- IN ARRAYS: one of the first n records has the number a and the tag w
 unfoldable pub tagged : List ℕ → List ℕ → ℕ → ℕ → ℕ → Bool
@@ -116,23 +116,23 @@ pub record Objects (lin tramo : Table) : Type 0 where
   pub held : (i : ℕ) → i < lin .count → names (λ j. nameAt Tramo tramo j 2) (tramo .count) (nameAt ObLin lin i 1) ≡ true
 
 -- 30 of VERTICE, 40 of a tramo's line and nodes and of a vertex's line, 50 to 53 and 59
-pub record Lined (d : Delivery) : Type 0 where
-  pub keys : Distinct Vertice (d Vertice)
-  pub line : Refers Tramo (d Tramo) 4 Vertice (d Vertice) 1
-  pub used : Refers Vertice (d Vertice) 1 Tramo (d Tramo) 4
-  pub start : Refers Tramo (d Tramo) 6 Nodo (d Nodo) 1
-  pub last : Refers Tramo (d Tramo) 7 Nodo (d Nodo) 1
-  pub unbroken : (i : ℕ) → i < d Vertice .count → gap (vertex d) (d Vertice .count) i ≡ false
-  pub paired : (i : ℕ) → i < d Vertice .count → alone (vertex d) (d Vertice .count) i ≡ false
-  pub starts : (i : ℕ) → i < d Tramo .count → startElsewhere d i ≡ false
-  pub ends : (i : ℕ) → i < d Tramo .count → endElsewhere d i ≡ false
-  pub ended : (i : ℕ) → i < d Tramo .count → eqb (highest d (tramoLine d i)) 0 ≡ false
+pub record Lined (tramo vertice nodo : Table) : Type 0 where
+  pub keys : Distinct Vertice vertice
+  pub line : Refers Tramo tramo 4 Vertice vertice 1
+  pub used : Refers Vertice vertice 1 Tramo tramo 4
+  pub start : Refers Tramo tramo 6 Nodo nodo 1
+  pub last : Refers Tramo tramo 7 Nodo nodo 1
+  pub unbroken : (i : ℕ) → i < vertice .count → gap (keyOf Vertice vertice) (vertice .count) i ≡ false
+  pub paired : (i : ℕ) → i < vertice .count → alone (keyOf Vertice vertice) (vertice .count) i ≡ false
+  pub starts : (i : ℕ) → i < tramo .count → startElsewhere tramo vertice nodo i ≡ false
+  pub ends : (i : ℕ) → i < tramo .count → endElsewhere tramo vertice nodo i ≡ false
+  pub ended : (i : ℕ) → i < tramo .count → eqb (highest vertice (tramoLine tramo i)) 0 ≡ false
 
 -- 40 of a point object's node, 55 and 56
-pub record Used (d : Delivery) : Type 0 where
-  pub named : Refers ObPun (d ObPun) 3 Nodo (d Nodo) 1
-  pub points : (i : ℕ) → i < d ObPun .count → pointElsewhere d i ≡ false
-  pub held : (i : ℕ) → i < d Nodo .count → nodeUsed d i ≡ true
+pub record Used (pun tramo vertice nodo : Table) : Type 0 where
+  pub named : Refers ObPun pun 3 Nodo nodo 1
+  pub points : (i : ℕ) → i < pun .count → pointElsewhere pun nodo i ≡ false
+  pub held : (i : ℕ) → i < nodo .count → nodeUsed pun tramo vertice nodo i ≡ true
 
 -- 30 of NODO, and 54
 pub record Noded (t : Table) : Type 0 where

@@ -4,13 +4,16 @@ use crate::names::catalogued;
 use crate::names::distinct;
 use crate::names::objects;
 use crate::nodes::noded;
+use record::files::file_of;
+use record::kind::FILES;
 use record::kind::Kind;
 ghost use mathlib.Core.Path.{_≡_};
 ghost use mathlib.Core.Bool.{true};
-ghost use mathlib.Core.List.{List};
+ghost use mathlib.Core.List.{List, map};
 ghost use Prim.Native.Nat.{ℕ};
+ghost use Rattle.record.specs.Files.{filesOf};
 ghost use Rattle.record.specs.Says.{tableOf};
-ghost use Rattle.keys.specs.Delivery.{filesOf, deliveryOf};
+ghost use Rattle.keys.specs.Delivery.{deliveryOf};
 ghost use Rattle.lawful.specs.Shown.{Rest, Unbroken};
 
 // 30 of the files that nothing refers to, and 40 of the fields that refer to a file that is not there.
@@ -27,17 +30,16 @@ fn rest<'a>(ob_pun: &'a [u8], ob_tex: &'a [u8], ob_lin: &'a [u8], tramo: &'a [u8
 }
 
 // True only where no rule from 30 on is broken; false says nothing.
-pub fn shown_lawful<'a>(
-    catalogo: &'a [u8],
-    ob_pun: &'a [u8],
-    ob_tex: &'a [u8],
-    ob_lin: &'a [u8],
-    tramo: &'a [u8],
-    vertice: &'a [u8],
-    nodo: &'a [u8],
-) -> bool
-    ensures { λ r. ⌜ (r ≡ true → Unbroken (deliveryOf (filesOf (now (catalogo .entry)) (now («ob_pun» .entry)) (now («ob_tex» .entry)) (now («ob_lin» .entry)) (now (tramo .entry)) (now (vertice .entry)) (now (nodo .entry))))) ⌝ }
+pub fn shown_lawful<'a>(files: [&'a [u8]; FILES]) -> bool
+    ensures { λ r. ⌜ (r ≡ true → Unbroken (deliveryOf (filesOf (map now (files .entry))))) ⌝ }
 {
+    let catalogo = file_of(files, Kind::Catalogo);
+    let ob_pun = file_of(files, Kind::ObPun);
+    let ob_tex = file_of(files, Kind::ObTex);
+    let ob_lin = file_of(files, Kind::ObLin);
+    let tramo = file_of(files, Kind::Tramo);
+    let vertice = file_of(files, Kind::Vertice);
+    let nodo = file_of(files, Kind::Nodo);
     rest(ob_pun, ob_tex, ob_lin, tramo)
         & catalogued(catalogo, ob_pun, ob_tex, ob_lin, tramo)
         & objects(ob_lin, tramo)

@@ -12,7 +12,7 @@ use keys::column::fill_names;
 use record::kind::Kind;
 ghost use mathlib.Core.Path.{_≡_};
 ghost use mathlib.Core.Bool.{true, false};
-ghost use mathlib.Core.List.{List, []};
+ghost use mathlib.Core.List.{List};
 ghost use Prim.Native.Nat.{ℕ, _+_, _*_, _-_, _<_, _≤_};
 ghost use lib.ListN.{length, getD};
 ghost use Rattle.laws.specs.Find.{names};
@@ -21,7 +21,7 @@ ghost use Rattle.index.specs.Keys.{listed};
 ghost use Rattle.index.specs.Look.{HighestIn};
 ghost use Rattle.record.specs.Says.{tableOf};
 ghost use Rattle.keys.specs.Columns.{Fills};
-ghost use Rattle.keys.specs.Delivery.{filesOf, deliveryOf, nameAt, vertexKey};
+ghost use Rattle.keys.specs.Delivery.{nameAt, vertexKey};
 ghost use Rattle.keys.specs.Rules.{dangles};
 ghost use Rattle.topology.specs.Rules.{highestIn};
 ghost use Rattle.lawful.specs.Shown.{stands, Numbered, higherOf, Tops, Met, AllMet, Ends, Spots, Lined};
@@ -342,7 +342,7 @@ pub(crate) fn lined<'a>(
     ny: &'a [u64],
 ) -> bool
     requires { ⌜ Ends (now starts) (now ends) (tableOf (now tramo) Kind.Tramo) × Spots Kind.Vertice (now xs) (now ys) (tableOf (now vertice) Kind.Vertice) × Spots Kind.Nodo (now nx) (now ny) (tableOf (now nodo) Kind.Nodo) × Fills (now ids) (λ j. nameAt Kind.Nodo (tableOf (now nodo) Kind.Nodo) j 1) (tableOf (now nodo) Kind.Nodo .count) m ⌝ }
-    ensures { λ r. ⌜ (r ≡ true → Lined (deliveryOf (filesOf [] [] [] [] (now (tramo .entry)) (now (vertice .entry)) (now (nodo .entry))))) ⌝ }
+    ensures { λ r. ⌜ (r ≡ true → Lined (tableOf (now (tramo .entry)) Kind.Tramo) (tableOf (now (vertice .entry)) Kind.Vertice) (tableOf (now (nodo .entry)) Kind.Nodo)) ⌝ }
 {
     let mut keys = [0u64; 16384];
     let n = fill_keys(vertice, Kind::Vertice, &mut keys);

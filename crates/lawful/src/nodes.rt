@@ -15,12 +15,12 @@ use record::kind::Kind;
 use topology::nodes::spot;
 ghost use mathlib.Core.Path.{_≡_};
 ghost use mathlib.Core.Bool.{true, false};
-ghost use mathlib.Core.List.{List, []};
+ghost use mathlib.Core.List.{List};
 ghost use Prim.Native.Nat.{ℕ, _<_, _≤_};
 ghost use lib.ListN.{length, getD};
 ghost use Rattle.record.specs.Says.{tableOf};
 ghost use Rattle.keys.specs.Columns.{Fills};
-ghost use Rattle.keys.specs.Delivery.{filesOf, deliveryOf, nameAt};
+ghost use Rattle.keys.specs.Delivery.{nameAt};
 ghost use Rattle.topology.specs.Places.{spotOf};
 ghost use Rattle.topology.specs.Rules.{xAt, yAt, placedBefore};
 ghost use Rattle.lawful.specs.Shown.{stands, placedIn, AllHeld, Lined, Used, Noded, Spots};
@@ -223,7 +223,7 @@ fn in_use<'a>(
     ny: &'a [u64],
 ) -> bool
     requires { ⌜ Spots Kind.Vertice (now xs) (now ys) (tableOf (now vertice) Kind.Vertice) × (n ≡ tableOf (now vertice) Kind.Vertice .count) × Spots Kind.Nodo (now nx) (now ny) (tableOf (now nodo) Kind.Nodo) × Fills (now ids) (λ j. nameAt Kind.Nodo (tableOf (now nodo) Kind.Nodo) j 1) (tableOf (now nodo) Kind.Nodo .count) m ⌝ }
-    ensures { λ r. ⌜ (r ≡ true → Lined (deliveryOf (filesOf [] [] [] [] (now (tramo .entry)) (now (vertice .entry)) (now (nodo .entry)))) × Used (deliveryOf (filesOf [] (now («ob_pun» .entry)) [] [] (now (tramo .entry)) (now (vertice .entry)) (now (nodo .entry))))) ⌝ }
+    ensures { λ r. ⌜ (r ≡ true → Lined (tableOf (now (tramo .entry)) Kind.Tramo) (tableOf (now (vertice .entry)) Kind.Vertice) (tableOf (now (nodo .entry)) Kind.Nodo) × Used (tableOf (now («ob_pun» .entry)) Kind.ObPun) (tableOf (now (tramo .entry)) Kind.Tramo) (tableOf (now (vertice .entry)) Kind.Vertice) (tableOf (now (nodo .entry)) Kind.Nodo)) ⌝ }
 {
     let mut starts = [0u64; 16384];
     let t = fill_names(tramo, Kind::Tramo, 6, &mut starts);
@@ -270,7 +270,7 @@ pub(crate) fn noded<'a>(
     vertice: &'a [u8],
     nodo: &'a [u8],
 ) -> bool
-    ensures { λ r. ⌜ (r ≡ true → Lined (deliveryOf (filesOf [] [] [] [] (now (tramo .entry)) (now (vertice .entry)) (now (nodo .entry)))) × Used (deliveryOf (filesOf [] (now («ob_pun» .entry)) [] [] (now (tramo .entry)) (now (vertice .entry)) (now (nodo .entry)))) × Noded (tableOf (now (nodo .entry)) Kind.Nodo)) ⌝ }
+    ensures { λ r. ⌜ (r ≡ true → Lined (tableOf (now (tramo .entry)) Kind.Tramo) (tableOf (now (vertice .entry)) Kind.Vertice) (tableOf (now (nodo .entry)) Kind.Nodo) × Used (tableOf (now («ob_pun» .entry)) Kind.ObPun) (tableOf (now (tramo .entry)) Kind.Tramo) (tableOf (now (vertice .entry)) Kind.Vertice) (tableOf (now (nodo .entry)) Kind.Nodo) × Noded (tableOf (now (nodo .entry)) Kind.Nodo)) ⌝ }
 {
     let mut ids = [0u64; 16384];
     let m = fill_names(nodo, Kind::Nodo, 1, &mut ids);

@@ -63,7 +63,7 @@ returns c =
     let s = c .before .before .before .before .before .before .before .before .before .before in
     let p = s .before .before .before .before .before .before .before .before .before .before .before .before .before .before .before .before .before .before .pre in (
       c .lined .ensures (l .1),
-      used-all _ (p .3) (p .2) (p .0) (p .1) (read-fills (search needs) (s .before .before .before .before .before .before .fill-names .ensures)) (read-fills (search needs) (s .before .before .before .fill-names2 .ensures)) (read-fills (search needs) (s .fill-names3 .ensures))
+      used-all _ _ _ _ (p .3) (p .2) (p .0) (p .1) (read-fills (search needs) (s .before .before .before .before .before .before .fill-names .ensures)) (read-fills (search needs) (s .before .before .before .fill-names2 .ensures)) (read-fills (search needs) (s .fill-names3 .ensures))
           (c .before .before .before .before .before .before .before .points-meet .ensures (h .0)) (c .before .before .before .held .ensures (h .1)),
     )
 
