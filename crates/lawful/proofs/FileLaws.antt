@@ -19,8 +19,8 @@ use Rattle.index.proofs.HintLaws.{known-present}
 use Rattle.record.specs.declared.kind.Kind.{Kind}
 use Rattle.record.specs.declared.kind.Kind.the-variants.{Catalogo, ObPun, Vertice, Nodo}
 use Rattle.record.specs.Says.{Table, letterIn}
-use Rattle.keys.specs.Columns.{Fills}
-use Rattle.keys.specs.Delivery.{nameAt, keyOf}
+use Rattle.record.specs.machinery.Columns.{Fills}
+use Rattle.record.specs.Names.{nameAt, keyOf}
 use Rattle.keys.specs.Rules.{repeats, dangles, typedIn}
 use Rattle.keys.proofs.ReferLaws.{names-column, dangles-filled, dangles-missing, dangles-named, none-dangles-filled}
 use Rattle.topology.specs.Rules.{xAt, yAt, nodeIn, placed, meets, elsewhere, pointElsewhere}

@@ -16,8 +16,9 @@ use Rattle.index.specs.Hint.{AllKnown}
 use Rattle.record.specs.declared.kind.Kind.{Kind}
 use Rattle.record.specs.declared.kind.Kind.the-variants.{Catalogo, ObPun, ObTex, ObLin, Tramo, Vertice, Nodo}
 use Rattle.record.specs.Says.{Table, letterIn, placeIn}
-use Rattle.keys.specs.Columns.{Fills}
-use Rattle.keys.specs.Delivery.{nameAt, keyOf, typeOf}
+use Rattle.record.specs.machinery.Columns.{Fills}
+use Rattle.record.specs.Names.{nameAt, keyOf}
+use Rattle.record.specs.Table.{letterOf}
 use Rattle.keys.specs.Rules.{dangles}
 use Rattle.keys.proofs.ReferLaws.{names-column, dangles-filled}
 use Rattle.topology.specs.Rules.{xAt, yAt, highest, highestIn, tramoLine, tramoStart, tramoEnd, startElsewhere, endElsewhere, placed, placedBefore, nodeUsed}
@@ -47,15 +48,15 @@ tagged-column fills keys tags n e all i l = rw (← fills .holds i l, ← e) (al
 
 module _ (cat : Table) {codes letters : List ℕ} {n r : ℕ} (codes-in : Fills codes (λ j. nameAt Catalogo cat j 1) (cat .count) n)
     (letters-in : Fills letters (λ j. letterIn (cat .says j 2)) (cat .count) r) where
-  typed-all : (k : Kind) (t : Table) (f : ℕ) → ((i : ℕ) → i < t .count → tagged codes letters n (nameAt k t i f) (typeOf k) ≡ true) → Typed k t f cat
+  typed-all : (k : Kind) (t : Table) (f : ℕ) → ((i : ℕ) → i < t .count → tagged codes letters n (nameAt k t i f) (letterOf k) ≡ true) → Typed k t f cat
   typed-all k t f all i l = tagged-typed cat codes-in letters-in _ _ (all i l)
 
   pub catalogued-all :
       (pun tex lin tramo : Table) → firstDuplicate (listed codes) n ≡ none
-      → ((i : ℕ) → i < pun .count → tagged codes letters n (nameAt ObPun pun i 4) (typeOf ObPun) ≡ true)
-      → ((i : ℕ) → i < tex .count → tagged codes letters n (nameAt ObTex tex i 3) (typeOf ObTex) ≡ true)
-      → ((i : ℕ) → i < lin .count → tagged codes letters n (nameAt ObLin lin i 3) (typeOf ObLin) ≡ true)
-      → ((i : ℕ) → i < tramo .count → tagged codes letters n (nameAt Tramo tramo i 5) (typeOf Tramo) ≡ true) → Catalogued cat pun tex lin tramo
+      → ((i : ℕ) → i < pun .count → tagged codes letters n (nameAt ObPun pun i 4) (letterOf ObPun) ≡ true)
+      → ((i : ℕ) → i < tex .count → tagged codes letters n (nameAt ObTex tex i 3) (letterOf ObTex) ≡ true)
+      → ((i : ℕ) → i < lin .count → tagged codes letters n (nameAt ObLin lin i 3) (letterOf ObLin) ≡ true)
+      → ((i : ℕ) → i < tramo .count → tagged codes letters n (nameAt Tramo tramo i 5) (letterOf Tramo) ≡ true) → Catalogued cat pun tex lin tramo
   unfolding keyOf
   catalogued-all pun tex lin tramo d p x l t =
       record {

@@ -1,23 +1,29 @@
 -- Where each part of a delivery is shown lawful (specs/Shown.antt), no test of the thirties, forties and fifties holds at any record.
 -- Assumes nothing.
-use Prim.Native.Nat.{ℕ, zero, suc, _<_}
+use Prim.Native.Nat.{ℕ, zero, suc, _+_, _<_}
 use mathlib.Core.Bool.{Bool, true, false, not, _&&_}
-use mathlib.Core.Path.{_≡_, refl, ap, subst}
+use mathlib.Core.List.{List, [], _∷_}
+use mathlib.Core.Path.{_≡_, refl, sym, ap, subst, _∙_}
+use native.Mathlib.Omega.{arith}
 use lib.Dec.{eqb}
 use lib.ListN.{getD}
 use borrow.Author.Tests.{eq-eqb}
 use Rattle.laws.specs.Find.{any, names}
-use Rattle.laws.proofs.FindLaws.{any-at, any-true}
+use Rattle.laws.specs.Row.{pick}
+use Rattle.laws.proofs.FindLaws.{true-false, any-at, any-true}
 use Rattle.laws.proofs.RowLaws.{and-true, and-last, end, more, falses}
 use Rattle.record.specs.declared.kind.Kind.{Kind}
 use Rattle.record.specs.declared.kind.Kind.the-variants.{Catalogo, ObPun, ObTex, ObLin, Tramo, Vertice, Nodo}
 use Rattle.record.specs.Says.{Table}
-use Rattle.record.specs.Table.{keysOf}
-use Rattle.keys.specs.Delivery.{Delivery, nameAt, targetOf, typeOf}
-use Rattle.keys.specs.Rules.{repeats, breaks30, dangles, breaks40, typedIn, mistyped, refersToCatalogue, breaks41, keyTests}
+use Rattle.record.specs.declared.kind.Target.{Target}
+use Rattle.record.specs.declared.kind.Target.the-variants.{Free, Nowhere, To}
+use Rattle.record.specs.Table.{Col, whole, cols, fields, colAt, keysOf, targetOf, letterOf}
+use Rattle.record.specs.Files.{Delivery}
+use Rattle.record.specs.Names.{nameAt}
+use Rattle.keys.specs.Rules.{repeats, breaks30, dangles, danglesTo, breaks40, typedIn, mistyped, refersToCatalogue, breaks41, keyTests}
 use Rattle.topology.specs.Rules.{isAt, objectIdle, breaks50, breaks51, breaks52, breaks53, breaks54, breaks55, breaks56, breaks57, breaks59, fifties}
 use Rattle.topology.proofs.FiftyLaws.{read-at}
-use Rattle.lawful.specs.Shown.{Distinct, Catalogued, Rest, Objects, Lined, Used, Noded, Unbroken}
+use Rattle.lawful.specs.Shown.{Distinct, Absent, Refers, Typed, Catalogued, Rest, Objects, Lined, Used, Noded, Unbroken}
 
 -- A CODE catalogued under the type is catalogued, and not under another
 typed-known : (cat : Table) (w x : ℕ) → typedIn w cat x ≡ true → dangles (λ j. nameAt Catalogo cat j 1) (cat .count) x ≡ false
@@ -39,6 +45,22 @@ typed-not-other cat w x h = rw h (go (names (λ j. nameAt Catalogo cat j 1) (cat
     go : (b : Bool) → (b && false) ≡ false
     go true = refl
     go false = refl
+
+-- WHAT IS OWED of the columns of a kind that refer to something, the first of them at place f
+module _ (owed : Target → Bool) (Owes : Target → Kind → ℕ → Type 0) where
+  abbrev OwesAll : Kind → List Col → ℕ → Type 0
+  OwesAll k [] f = Unit {0}
+  OwesAll k (c ∷ cs) f = pick (owed (c .refers)) (Owes (c .refers) k f × OwesAll k cs (f + 1)) (OwesAll k cs (f + 1))
+
+  -- is had at each place
+  owes-at : (k : Kind) (cs : List Col) (f n m : ℕ) → m ≡ f + n → OwesAll k cs f → owed Free ≡ false → owed (getD cs n whole .refers) ≡ true → Owes (getD cs n whole .refers) k m
+  owes-at k [] f n m e h w b = absurd (true-false (sym b ∙ w))
+  owes-at k (c ∷ cs) f zero m e h w b = let q : m ≡ f = omega arith in rw q (rw b at h .0)
+  owes-at k (c ∷ cs) f (suc n) m e h w b = owes-at k cs (f + 1) n m (omega arith) (left (owed (c .refers)) h) w b
+    where
+      left : (b : Bool) → pick b (Owes (c .refers) k f × OwesAll k cs (f + 1)) (OwesAll k cs (f + 1)) → OwesAll k cs (f + 1)
+      left true h = h .1
+      left false h = h
 
 -- THE PARTS of a delivery
 pub record Parts (d : Delivery) : Type 0 where
@@ -66,74 +88,50 @@ module _ (d : Delivery) (p : Parts d) where
   missing : {x : ℕ} → x ≡ 0 → not (eqb x 0) ≡ false
   missing {x} e = ap not (eq-eqb x 0 e)
 
+  refersAtAll : Target → Bool
+  refersAtAll Free = false
+  refersAtAll Nowhere = true
+  refersAtAll (To j g) = true
+
+  OwesRecord : Target → Kind → ℕ → Type 0
+  OwesRecord Free k f = Unit {0}
+  OwesRecord Nowhere k f = Absent k (d k) f
+  OwesRecord (To j g) k f = Refers k (d k) f j (d j) g
+
+  all-refer : (k : Kind) → OwesAll refersAtAll OwesRecord k (fields k) 1
+  unfolding refersAtAll OwesRecord
+  all-refer Catalogo = tt
+  all-refer ObPun = (p .rest .point-composite, (p .used .named, (λ i l. typed-known _ _ _ (p .catalogue .points i l), tt)))
+  all-refer ObTex = (p .rest .text-composite, (λ i l. typed-known _ _ _ (p .catalogue .texts i l), tt))
+  all-refer ObLin = (p .rest .line-composite, (λ i l. typed-known _ _ _ (p .catalogue .lines i l), tt))
+  all-refer Tramo =
+      (p .objects .named, (p .rest .perimeter, (p .lines .line, (λ i l. typed-known _ _ _ (p .catalogue .tramos i l), (p .lines .start, (p .lines .last, tt))))))
+  all-refer Vertice = (p .lines .used, tt)
+  all-refer Nodo = tt
+
   none-40 : (k : Kind) (i f : ℕ) → i < d k .count → breaks40 d k i f ≡ false
-  unfolding breaks40 targetOf
-  none-40 Catalogo i f l = refl
-  none-40 ObPun i zero l = refl
-  none-40 ObPun i (suc zero) l = refl
-  none-40 ObPun i (suc (suc zero)) l = missing (p .rest .point-composite i l)
-  none-40 ObPun i (suc (suc (suc zero))) l = p .used .named i l
-  none-40 ObPun i (suc (suc (suc (suc zero)))) l = typed-known _ _ _ (p .catalogue .points i l)
-  none-40 ObPun i (suc (suc (suc (suc (suc f))))) l = refl
-  none-40 ObTex i zero l = refl
-  none-40 ObTex i (suc zero) l = refl
-  none-40 ObTex i (suc (suc zero)) l = missing (p .rest .text-composite i l)
-  none-40 ObTex i (suc (suc (suc zero))) l = typed-known _ _ _ (p .catalogue .texts i l)
-  none-40 ObTex i (suc (suc (suc (suc f)))) l = refl
-  none-40 ObLin i zero l = refl
-  none-40 ObLin i (suc zero) l = refl
-  none-40 ObLin i (suc (suc zero)) l = missing (p .rest .line-composite i l)
-  none-40 ObLin i (suc (suc (suc zero))) l = typed-known _ _ _ (p .catalogue .lines i l)
-  none-40 ObLin i (suc (suc (suc (suc f)))) l = refl
-  none-40 Tramo i zero l = refl
-  none-40 Tramo i (suc zero) l = refl
-  none-40 Tramo i (suc (suc zero)) l = p .objects .named i l
-  none-40 Tramo i (suc (suc (suc zero))) l = missing (p .rest .perimeter i l)
-  none-40 Tramo i (suc (suc (suc (suc zero)))) l = p .lines .line i l
-  none-40 Tramo i (suc (suc (suc (suc (suc zero))))) l = typed-known _ _ _ (p .catalogue .tramos i l)
-  none-40 Tramo i (suc (suc (suc (suc (suc (suc zero)))))) l = p .lines .start i l
-  none-40 Tramo i (suc (suc (suc (suc (suc (suc (suc zero))))))) l = p .lines .last i l
-  none-40 Tramo i (suc (suc (suc (suc (suc (suc (suc (suc f)))))))) l = refl
-  none-40 Vertice i zero l = refl
-  none-40 Vertice i (suc zero) l = p .lines .used i l
-  none-40 Vertice i (suc (suc f)) l = refl
-  none-40 Nodo i f l = refl
+  unfolding breaks40 targetOf colAt refersAtAll OwesRecord
+  none-40 k i f l = go (targetOf k f) (λ b. owes-at refersAtAll OwesRecord k (cols k) 0 f f (omega arith) (all-refer k) refl b)
+    where
+      go : (t : Target) → (refersAtAll t ≡ true → OwesRecord t k f) → danglesTo t d (nameAt k (d k) i f) ≡ false
+      go Free h = refl
+      go Nowhere h = missing (h refl i l)
+      go (To j g) h = h refl i l
+
+  all-typed : (k : Kind) → OwesAll refersToCatalogue (λ t j f. Typed j (d j) f (d Catalogo)) k (fields k) 1
+  all-typed Catalogo = tt
+  all-typed ObPun = (p .catalogue .points, tt)
+  all-typed ObTex = (p .catalogue .texts, tt)
+  all-typed ObLin = (p .catalogue .lines, tt)
+  all-typed Tramo = (p .catalogue .tramos, tt)
+  all-typed Vertice = tt
+  all-typed Nodo = tt
 
   none-41 : (k : Kind) (i f : ℕ) → i < d k .count → breaks41 d k i f ≡ false
-  unfolding breaks41 targetOf
-  none-41 Catalogo i f l = refl
-  none-41 ObPun i zero l = refl
-  none-41 ObPun i (suc zero) l = refl
-  none-41 ObPun i (suc (suc zero)) l = refl
-  none-41 ObPun i (suc (suc (suc zero))) l = refl
-  none-41 ObPun i (suc (suc (suc (suc zero)))) l = typed-not-other _ _ _ (p .catalogue .points i l)
-  none-41 ObPun i (suc (suc (suc (suc (suc f))))) l = refl
-  none-41 ObTex i zero l = refl
-  none-41 ObTex i (suc zero) l = refl
-  none-41 ObTex i (suc (suc zero)) l = refl
-  none-41 ObTex i (suc (suc (suc zero))) l = typed-not-other _ _ _ (p .catalogue .texts i l)
-  none-41 ObTex i (suc (suc (suc (suc f)))) l = refl
-  none-41 ObLin i zero l = refl
-  none-41 ObLin i (suc zero) l = refl
-  none-41 ObLin i (suc (suc zero)) l = refl
-  none-41 ObLin i (suc (suc (suc zero))) l = typed-not-other _ _ _ (p .catalogue .lines i l)
-  none-41 ObLin i (suc (suc (suc (suc f)))) l = refl
-  none-41 Tramo i zero l = refl
-  none-41 Tramo i (suc zero) l = refl
-  none-41 Tramo i (suc (suc zero)) l = refl
-  none-41 Tramo i (suc (suc (suc zero))) l = refl
-  none-41 Tramo i (suc (suc (suc (suc zero)))) l = refl
-  none-41 Tramo i (suc (suc (suc (suc (suc zero))))) l = typed-not-other _ _ _ (p .catalogue .tramos i l)
-  none-41 Tramo i (suc (suc (suc (suc (suc (suc f)))))) l = go f
-    where
-      go : (f : ℕ) → (refersToCatalogue (targetOf Tramo (suc (suc (suc (suc (suc (suc f))))))) && mistyped (typeOf Tramo) (d Catalogo) (nameAt Tramo (d Tramo) i (suc (suc (suc (suc (suc (suc f)))))))) ≡ false
-      go zero = refl
-      go (suc zero) = refl
-      go (suc (suc f)) = refl
-  none-41 Vertice i zero l = refl
-  none-41 Vertice i (suc zero) l = refl
-  none-41 Vertice i (suc (suc f)) l = refl
-  none-41 Nodo i f l = refl
+  unfolding breaks41 targetOf colAt
+  none-41 k i f l =
+      and-last (refersToCatalogue (targetOf k f)) (mistyped (letterOf k) (d Catalogo) (nameAt k (d k) i f))
+      (λ b. typed-not-other _ _ _ (owes-at refersToCatalogue (λ t j g. Typed j (d j) g (d Catalogo)) k (cols k) 0 f f (omega arith) (all-typed k) refl b i l))
 
   none-keys : (t : ℕ) (k : Kind) (i f u : ℕ) → i < d k .count → getD (keyTests t d k i f) u false ≡ false
   unfolding keyTests

@@ -16,7 +16,9 @@ use Rattle.index.specs.Hint.{guessOf}
 use Rattle.record.specs.declared.kind.Kind.{Kind}
 use Rattle.record.specs.declared.kind.Kind.the-variants.{Catalogo, ObPun, ObTex, ObLin, Tramo, Vertice, Nodo}
 use Rattle.record.specs.Says.{Table}
-use Rattle.keys.specs.Delivery.{Delivery, nameAt, vertexKey, keyOf, typeOf}
+use Rattle.record.specs.Files.{Delivery}
+use Rattle.record.specs.Names.{nameAt, vertexKey, keyOf}
+use Rattle.record.specs.Table.{letterOf}
 use Rattle.keys.specs.Rules.{repeats, dangles, typedIn, keyTests}
 use Rattle.topology.specs.Rules.{xAt, yAt, gap, alone, highestIn, highest, tramoLine, startElsewhere, endElsewhere, placedBefore, pointElsewhere, nodeUsed, fifties}
 
@@ -89,7 +91,7 @@ Refers k t f other to g = (i : ℕ) → i < t .count → dangles (λ j. nameAt o
 
 -- each record's field f is a code that is catalogued under the file's type
 abbrev pub Typed : Kind → Table → ℕ → Table → Type 0
-Typed k t f cat = (i : ℕ) → i < t .count → typedIn (typeOf k) cat (nameAt k t i f) ≡ true
+Typed k t f cat = (i : ℕ) → i < t .count → typedIn (letterOf k) cat (nameAt k t i f) ≡ true
 
 -- 30 of CATALOGO, and 40 and 41 of every CODIGO
 pub record Catalogued (cat pun tex lin tramo : Table) : Type 0 where

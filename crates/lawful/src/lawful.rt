@@ -11,9 +11,8 @@ ghost use mathlib.Core.Path.{_≡_};
 ghost use mathlib.Core.Bool.{true};
 ghost use mathlib.Core.List.{List, map};
 ghost use Prim.Native.Nat.{ℕ};
-ghost use Rattle.record.specs.Files.{filesOf};
+ghost use Rattle.record.specs.Files.{filesOf, deliveryOf};
 ghost use Rattle.record.specs.Says.{tableOf};
-ghost use Rattle.keys.specs.Delivery.{deliveryOf};
 ghost use Rattle.lawful.specs.Shown.{Rest, Unbroken};
 
 // 30 of the files that nothing refers to, and 40 of the fields that refer to a file that is not there.

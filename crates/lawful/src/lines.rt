@@ -7,9 +7,10 @@ use index::hint::differ;
 use index::hint::fill_hints;
 use index::hint::guess;
 use index::look::key_of;
-use keys::column::fill_keys;
-use keys::column::fill_names;
+use record::fill::fill_keys;
+use record::fill::fill_names;
 use record::kind::Kind;
+use record::kind::LIMIT;
 ghost use mathlib.Core.Path.{_≡_};
 ghost use mathlib.Core.Bool.{true, false};
 ghost use mathlib.Core.List.{List};
@@ -20,8 +21,8 @@ ghost use Rattle.index.specs.declared.Found.the-variants.{At};
 ghost use Rattle.index.specs.Keys.{listed};
 ghost use Rattle.index.specs.Look.{HighestIn};
 ghost use Rattle.record.specs.Says.{tableOf};
-ghost use Rattle.keys.specs.Columns.{Fills};
-ghost use Rattle.keys.specs.Delivery.{nameAt, vertexKey};
+ghost use Rattle.record.specs.machinery.Columns.{Fills};
+ghost use Rattle.record.specs.Names.{nameAt, vertexKey};
 ghost use Rattle.keys.specs.Rules.{dangles};
 ghost use Rattle.topology.specs.Rules.{highestIn};
 ghost use Rattle.lawful.specs.Shown.{stands, Numbered, higherOf, Tops, Met, AllMet, Ends, Spots, Lined};
@@ -261,7 +262,7 @@ fn ends_meet<'a>(
 fn lines_known<'a>(vertice: &'a [u8], lines: &'a [u64], of: &'a [u16], t: usize) -> bool
     ensures { λ r. ⌜ (r ≡ true → ((i : ℕ) → i < tableOf (now (vertice .entry)) Kind.Vertice .count → dangles (listed (now (lines .entry))) t (nameAt Kind.Vertice (tableOf (now (vertice .entry)) Kind.Vertice) i 1) ≡ false) × ((i : ℕ) → i < t → dangles (λ j. nameAt Kind.Vertice (tableOf (now (vertice .entry)) Kind.Vertice) j 1) (tableOf (now (vertice .entry)) Kind.Vertice .count) (getD (now (lines .entry)) i 0) ≡ false)) ⌝ }
 {
-    let mut own = [0u64; 16384];
+    let mut own = [0u64; LIMIT];
     let n = fill_names(vertice, Kind::Vertice, 1, &mut own);
     let mut hints = [0u16; 32768];
     fill_hints(&own, &mut hints, n);
@@ -288,7 +289,7 @@ fn all_meet<'a>(
 ) -> bool
     ensures { λ r. ⌜ (r ≡ true → AllMet (now (lines .entry)) (now (starts .entry)) (now (ends .entry)) t (now (keys .entry)) (now (xs .entry)) (now (ys .entry)) n (now (ids .entry)) (now (nx .entry)) (now (ny .entry)) m) ⌝ }
 {
-    let mut tops = [0usize; 16384];
+    let mut tops = [0usize; LIMIT];
     if fill_tops(keys, n, lines, of, t, &mut tops) {
         starts_meet(
             lines,
@@ -344,11 +345,11 @@ pub(crate) fn lined<'a>(
     requires { ⌜ Ends (now starts) (now ends) (tableOf (now tramo) Kind.Tramo) × Spots Kind.Vertice (now xs) (now ys) (tableOf (now vertice) Kind.Vertice) × Spots Kind.Nodo (now nx) (now ny) (tableOf (now nodo) Kind.Nodo) × Fills (now ids) (λ j. nameAt Kind.Nodo (tableOf (now nodo) Kind.Nodo) j 1) (tableOf (now nodo) Kind.Nodo .count) m ⌝ }
     ensures { λ r. ⌜ (r ≡ true → Lined (tableOf (now (tramo .entry)) Kind.Tramo) (tableOf (now (vertice .entry)) Kind.Vertice) (tableOf (now (nodo .entry)) Kind.Nodo)) ⌝ }
 {
-    let mut keys = [0u64; 16384];
+    let mut keys = [0u64; LIMIT];
     let n = fill_keys(vertice, Kind::Vertice, &mut keys);
     let mut hints = [0u16; 32768];
     fill_hints(&keys, &mut hints, n);
-    let mut lines = [0u64; 16384];
+    let mut lines = [0u64; LIMIT];
     let t = fill_names(tramo, Kind::Tramo, 4, &mut lines);
     let mut of = [0u16; 32768];
     fill_hints(&lines, &mut of, t);

@@ -2,6 +2,7 @@
 use index::Found;
 use index::hint::guess;
 use index::look::key_of;
+use record::kind::LIMIT;
 ghost use mathlib.Core.Path.{_≡_};
 ghost use mathlib.Core.Bool.{true};
 ghost use Prim.Native.Nat.{ℕ, _<_};
@@ -77,7 +78,7 @@ pub(crate) fn all_used<'a>(
 ) -> bool
     ensures { λ r. ⌜ (r ≡ true → (i : ℕ) → i < n → names (listed (now (refs .entry))) m (getD (now (keys .entry)) i 0) ≡ true) ⌝ }
 {
-    let mut used = [0u8; 16384];
+    let mut used = [0u8; LIMIT];
     mark_all(refs, m, keys, hints, n, &mut used);
     all_marked(&used, n)
 }

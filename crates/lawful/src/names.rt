@@ -8,25 +8,26 @@ use index::hint::fill_hints;
 use index::hint::guess;
 use index::look::key_of;
 use index::twice::hinted_distinct;
-use keys::column::fill_keys;
-use keys::column::fill_letters;
-use keys::column::fill_names;
-use keys::names::type_of;
 use keys::refer::first_present;
+use record::fill::fill_keys;
+use record::fill::fill_letters;
+use record::fill::fill_names;
 use record::kind::Kind;
+use record::kind::LIMIT;
 ghost use mathlib.Core.Path.{_≡_};
 ghost use mathlib.Core.Bool.{true};
 ghost use Prim.Native.Nat.{ℕ, _<_};
 ghost use lib.ListN.{getD};
 ghost use Rattle.record.specs.Says.{tableOf};
-ghost use Rattle.keys.specs.Delivery.{nameAt, typeOf};
+ghost use Rattle.record.specs.Names.{nameAt};
+ghost use Rattle.record.specs.Table.{letterOf};
 ghost use Rattle.lawful.specs.Shown.{tagged, Distinct, Absent, Catalogued, Objects};
 
 // 30: no record has an earlier one's key.
 pub(crate) fn distinct(s: &[u8], k: Kind) -> bool
     ensures { λ r. ⌜ (r ≡ true → Distinct k (tableOf (now (s .entry)) k)) ⌝ }
 {
-    let mut keys = [0u64; 16384];
+    let mut keys = [0u64; LIMIT];
     let n = fill_keys(s, k, &mut keys);
     hinted_distinct(&keys, n)
 }
@@ -93,11 +94,11 @@ fn typed<'a>(
     letters: &'a [u64],
     n: usize,
 ) -> bool
-    ensures { λ r. ⌜ (r ≡ true → (i : ℕ) → i < tableOf (now (s .entry)) k .count → tagged (now (codes .entry)) (now (letters .entry)) n (nameAt k (tableOf (now (s .entry)) k) i f) (typeOf k) ≡ true) ⌝ }
+    ensures { λ r. ⌜ (r ≡ true → (i : ℕ) → i < tableOf (now (s .entry)) k .count → tagged (now (codes .entry)) (now (letters .entry)) n (nameAt k (tableOf (now (s .entry)) k) i f) (letterOf k) ≡ true) ⌝ }
 {
-    let mut refs = [0u64; 16384];
+    let mut refs = [0u64; LIMIT];
     let m = fill_names(s, k, f, &mut refs);
-    all_tagged(&refs, m, codes, hints, letters, n, type_of(k) as u64)
+    all_tagged(&refs, m, codes, hints, letters, n, k.letter() as u64)
 }
 
 // 30 of CATALOGO, and 40 and 41 of every CODIGO.
@@ -110,9 +111,9 @@ pub(crate) fn catalogued<'a>(
 ) -> bool
     ensures { λ r. ⌜ (r ≡ true → Catalogued (tableOf (now (catalogo .entry)) Kind.Catalogo) (tableOf (now («ob_pun» .entry)) Kind.ObPun) (tableOf (now («ob_tex» .entry)) Kind.ObTex) (tableOf (now («ob_lin» .entry)) Kind.ObLin) (tableOf (now (tramo .entry)) Kind.Tramo)) ⌝ }
 {
-    let mut codes = [0u64; 16384];
+    let mut codes = [0u64; LIMIT];
     let n = fill_names(catalogo, Kind::Catalogo, 1, &mut codes);
-    let mut letters = [0u64; 16384];
+    let mut letters = [0u64; LIMIT];
     fill_letters(catalogo, Kind::Catalogo, 2, &mut letters);
     let mut hints = [0u16; 32768];
     fill_hints(&codes, &mut hints, n);
@@ -127,9 +128,9 @@ pub(crate) fn catalogued<'a>(
 pub(crate) fn objects<'a>(ob_lin: &'a [u8], tramo: &'a [u8]) -> bool
     ensures { λ r. ⌜ (r ≡ true → Objects (tableOf (now («ob_lin» .entry)) Kind.ObLin) (tableOf (now (tramo .entry)) Kind.Tramo)) ⌝ }
 {
-    let mut ids = [0u64; 16384];
+    let mut ids = [0u64; LIMIT];
     let n = fill_names(ob_lin, Kind::ObLin, 1, &mut ids);
-    let mut refs = [0u64; 16384];
+    let mut refs = [0u64; LIMIT];
     let m = fill_names(tramo, Kind::Tramo, 2, &mut refs);
     let mut hints = [0u16; 32768];
     fill_hints(&ids, &mut hints, n);

@@ -8,19 +8,21 @@ use index::hint::fill_hints;
 use index::hint::guess;
 use index::look::key_of;
 use index::twice::hinted_distinct;
-use keys::column::fill_names;
-use keys::column::fill_places;
 use record::columns::place;
+use record::fill::fill_names;
+use record::fill::fill_places;
 use record::kind::Kind;
+use record::kind::LIMIT;
 use topology::nodes::spot;
 ghost use mathlib.Core.Path.{_≡_};
 ghost use mathlib.Core.Bool.{true, false};
 ghost use mathlib.Core.List.{List};
 ghost use Prim.Native.Nat.{ℕ, _<_, _≤_};
 ghost use lib.ListN.{length, getD};
+ghost use Rattle.record.specs.Table.{limit};
 ghost use Rattle.record.specs.Says.{tableOf};
-ghost use Rattle.keys.specs.Columns.{Fills};
-ghost use Rattle.keys.specs.Delivery.{nameAt};
+ghost use Rattle.record.specs.machinery.Columns.{Fills};
+ghost use Rattle.record.specs.Names.{nameAt};
 ghost use Rattle.topology.specs.Places.{spotOf};
 ghost use Rattle.topology.specs.Rules.{xAt, yAt, placedBefore};
 ghost use Rattle.lawful.specs.Shown.{stands, placedIn, AllHeld, Lined, Used, Noded, Spots};
@@ -172,11 +174,11 @@ fn held<'a>(
 ) -> bool
     ensures { λ r. ⌜ (r ≡ true → AllHeld (now (ids .entry)) (now (nx .entry)) (now (ny .entry)) m (now (starts .entry)) (now (ends .entry)) t (now (points .entry)) p (now (xs .entry)) (now (ys .entry)) n) ⌝ }
 {
-    let mut used = [0u8; 16384];
+    let mut used = [0u8; LIMIT];
     mark_all(starts, t, ids, nodes, m, &mut used);
     mark_all(ends, t, ids, nodes, m, &mut used);
     mark_all(points, p, ids, nodes, m, &mut used);
-    let mut mixes = [0u64; 16384];
+    let mut mixes = [0u64; LIMIT];
     fill_mixed(xs, ys, n, &mut mixes);
     let mut hints = [0u16; 32768];
     fill_hints(&mixes, &mut hints, n);
@@ -184,8 +186,8 @@ fn held<'a>(
 }
 
 // The spots of n nodes, by the columns of their X, Y and Z.
-fn fill_spots<'a>(xs: &'a [u64], ys: &'a [u64], zs: &'a [u64], n: usize, out: &mut [u64; 16384])
-    requires { ⌜ (n ≤ 16384) × (length (now out) ≡ 16384) ⌝ }
+fn fill_spots<'a>(xs: &'a [u64], ys: &'a [u64], zs: &'a [u64], n: usize, out: &mut [u64; LIMIT])
+    requires { ⌜ (n ≤ limit) × (length (now out) ≡ limit) ⌝ }
     ensures { λ _. ⌜ Fills (now (out .exit)) (λ i. spotOf (getD (now (xs .entry)) i 0) (getD (now (ys .entry)) i 0) (getD (now (zs .entry)) i 0)) n n ⌝ }
 {
     let mut i = 0;
@@ -200,9 +202,9 @@ fn apart<'a>(nodo: &'a [u8], nx: &'a [u64], ny: &'a [u64]) -> bool
     requires { ⌜ Spots Kind.Nodo (now nx) (now ny) (tableOf (now nodo) Kind.Nodo) ⌝ }
     ensures { λ r. ⌜ (r ≡ true → (i : ℕ) → i < tableOf (now (nodo .entry)) Kind.Nodo .count → placedBefore (tableOf (now (nodo .entry)) Kind.Nodo) i ≡ false) ⌝ }
 {
-    let mut nz = [0u64; 16384];
+    let mut nz = [0u64; LIMIT];
     let n = fill_places(nodo, Kind::Nodo, 8, &mut nz);
-    let mut spots = [0u64; 16384];
+    let mut spots = [0u64; LIMIT];
     fill_spots(nx, ny, &nz, n, &mut spots);
     hinted_distinct(&spots, n)
 }
@@ -225,11 +227,11 @@ fn in_use<'a>(
     requires { ⌜ Spots Kind.Vertice (now xs) (now ys) (tableOf (now vertice) Kind.Vertice) × (n ≡ tableOf (now vertice) Kind.Vertice .count) × Spots Kind.Nodo (now nx) (now ny) (tableOf (now nodo) Kind.Nodo) × Fills (now ids) (λ j. nameAt Kind.Nodo (tableOf (now nodo) Kind.Nodo) j 1) (tableOf (now nodo) Kind.Nodo .count) m ⌝ }
     ensures { λ r. ⌜ (r ≡ true → Lined (tableOf (now (tramo .entry)) Kind.Tramo) (tableOf (now (vertice .entry)) Kind.Vertice) (tableOf (now (nodo .entry)) Kind.Nodo) × Used (tableOf (now («ob_pun» .entry)) Kind.ObPun) (tableOf (now (tramo .entry)) Kind.Tramo) (tableOf (now (vertice .entry)) Kind.Vertice) (tableOf (now (nodo .entry)) Kind.Nodo)) ⌝ }
 {
-    let mut starts = [0u64; 16384];
+    let mut starts = [0u64; LIMIT];
     let t = fill_names(tramo, Kind::Tramo, 6, &mut starts);
-    let mut ends = [0u64; 16384];
+    let mut ends = [0u64; LIMIT];
     fill_names(tramo, Kind::Tramo, 7, &mut ends);
-    let mut points = [0u64; 16384];
+    let mut points = [0u64; LIMIT];
     let p = fill_names(ob_pun, Kind::ObPun, 3, &mut points);
     points_meet(ob_pun, &points, p, ids, nodes, m, nx, ny)
         & held(
@@ -272,17 +274,17 @@ pub(crate) fn noded<'a>(
 ) -> bool
     ensures { λ r. ⌜ (r ≡ true → Lined (tableOf (now (tramo .entry)) Kind.Tramo) (tableOf (now (vertice .entry)) Kind.Vertice) (tableOf (now (nodo .entry)) Kind.Nodo) × Used (tableOf (now («ob_pun» .entry)) Kind.ObPun) (tableOf (now (tramo .entry)) Kind.Tramo) (tableOf (now (vertice .entry)) Kind.Vertice) (tableOf (now (nodo .entry)) Kind.Nodo) × Noded (tableOf (now (nodo .entry)) Kind.Nodo)) ⌝ }
 {
-    let mut ids = [0u64; 16384];
+    let mut ids = [0u64; LIMIT];
     let m = fill_names(nodo, Kind::Nodo, 1, &mut ids);
     let mut nodes = [0u16; 32768];
     fill_hints(&ids, &mut nodes, m);
-    let mut nx = [0u64; 16384];
+    let mut nx = [0u64; LIMIT];
     fill_places(nodo, Kind::Nodo, 4, &mut nx);
-    let mut ny = [0u64; 16384];
+    let mut ny = [0u64; LIMIT];
     fill_places(nodo, Kind::Nodo, 6, &mut ny);
-    let mut xs = [0u64; 16384];
+    let mut xs = [0u64; LIMIT];
     let n = fill_places(vertice, Kind::Vertice, 4, &mut xs);
-    let mut ys = [0u64; 16384];
+    let mut ys = [0u64; LIMIT];
     fill_places(vertice, Kind::Vertice, 6, &mut ys);
     differ(&ids, &nodes, m)
         & apart(nodo, &nx, &ny)

@@ -4,8 +4,7 @@ use mathlib.Core.List.{map}
 use denote.Ref.{now}
 use borrow.Author.Needs.{needs}
 use Rattle.laws.proofs.RowLaws.{and-true}
-use Rattle.record.specs.Files.{filesOf}
-use Rattle.keys.specs.Delivery.{deliveryOf}
+use Rattle.record.specs.Files.{filesOf, deliveryOf}
 use Rattle.lawful.proofs.UnbrokenLaws.{parts-unbroken}
 use Rattle.lawful.proofs.lawful.shown_lawful.Statement.{statement}
 use Rattle.lawful.proofs.lawful.shown_lawful.Tie as tie

@@ -1,7 +1,7 @@
 -- `lawful::lines::lines_known` meets its contract. The array holds the column.
 -- Assumes nothing.
 use Rattle.laws.proofs.RowLaws.{and-true}
-use Rattle.keys.proofs.ColumnLaws.{read-fills}
+use Rattle.record.proofs.ColumnLaws.{read-fills}
 use Rattle.lawful.proofs.FileLaws.{known-names, known-keys}
 use borrow.Author.Needs.{needs}
 use Rattle.lawful.proofs.lines.lines_known.Statement.{statement}

@@ -4,7 +4,7 @@ use Prim.Native.Nat.{_-_, _<_}
 use borrow.Author.Count.{below-none, below-more}
 use Rattle.lawful.proofs.ListLaws.{below-end}
 use lib.ListN.{getD}
-use Rattle.keys.specs.Delivery.{vertexKey}
+use Rattle.record.specs.Names.{vertexKey}
 use Rattle.lawful.specs.Shown.{Met}
 use mathlib.Core.Path.{sym}
 use Rattle.laws.proofs.FindLaws.{true-false}

@@ -1,7 +1,7 @@
 -- `lawful::names::catalogued` meets its contract. The arrays hold the columns.
 -- Assumes nothing.
 use Rattle.laws.proofs.RowLaws.{and-true}
-use Rattle.keys.proofs.ColumnLaws.{read-fills}
+use Rattle.record.proofs.ColumnLaws.{read-fills}
 use Rattle.lawful.proofs.PartLaws.{catalogued-all}
 use borrow.Author.Needs.{needs}
 use Rattle.lawful.proofs.names.catalogued.Statement.{statement}

@@ -1,7 +1,7 @@
 -- `lawful::names::distinct` meets its contract. The array holds the column.
 -- Assumes nothing.
-use Rattle.keys.specs.Delivery.{keyOf}
-use Rattle.keys.proofs.ColumnLaws.{read-fills}
+use Rattle.record.specs.Names.{keyOf}
+use Rattle.record.proofs.ColumnLaws.{read-fills}
 use Rattle.lawful.proofs.FileLaws.{differ-column}
 use borrow.Author.Needs.{needs}
 use Rattle.lawful.proofs.names.distinct.Statement.{statement}

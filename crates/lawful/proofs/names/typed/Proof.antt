@@ -1,6 +1,6 @@
 -- `lawful::names::typed` meets its contract. The array holds the column.
 -- Assumes nothing.
-use Rattle.keys.proofs.ColumnLaws.{read-fills}
+use Rattle.record.proofs.ColumnLaws.{read-fills}
 use Rattle.lawful.proofs.PartLaws.{tagged-column}
 use borrow.Author.Needs.{needs}
 use Rattle.lawful.proofs.names.typed.Statement.{statement}
@@ -15,8 +15,8 @@ fill-names-requires c κs = search needs
 slice-aggregate-all-tagged : tie.Need-slice-aggregate-all-tagged
 slice-aggregate-all-tagged c = search needs
 
-type-of-requires : tie.Need-type-of-requires
-type-of-requires c κs = search needs
+letter-requires : tie.Need-letter-requires
+letter-requires c κs = search needs
 
 cast-all-tagged : tie.Need-cast-all-tagged
 cast-all-tagged c = search needs
@@ -25,7 +25,7 @@ all-tagged-requires : tie.Need-all-tagged-requires
 all-tagged-requires c κs = search needs
 
 returns : tie.Need-returns
-returns c = λ e. tagged-column (read-fills (search needs) (c .before .before .before .before .fill-names .ensures)) _ _ _ (c .before .type-of .ensures) (c .all-tagged .ensures e)
+returns c = λ e. tagged-column (read-fills (search needs) (c .before .before .before .before .fill-names .ensures)) _ _ _ (c .before .letter .ensures) (c .all-tagged .ensures e)
 
 pub typed-spec : {M : Type 1} → statement M
 typed-spec =
@@ -34,7 +34,7 @@ typed-spec =
     slice-aggregate-fill-names
     fill-names-requires
     slice-aggregate-all-tagged
-    type-of-requires
+    letter-requires
     cast-all-tagged
     all-tagged-requires
     returns)

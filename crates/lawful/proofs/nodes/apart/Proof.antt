@@ -1,6 +1,6 @@
 -- `lawful::nodes::apart` meets its contract. The arrays hold the columns.
 -- Assumes nothing.
-use Rattle.keys.proofs.ColumnLaws.{read-fills}
+use Rattle.record.proofs.ColumnLaws.{read-fills}
 use Rattle.lawful.proofs.PartLaws.{apart-all}
 use native.Mathlib.Omega.{arith}
 use borrow.Author.Needs.{needs}
