@@ -1,6 +1,6 @@
--- Document 01's 14 cases (specs/Cases.antt), by computation: one theorem over the table.
+-- Document 01's 14 cases (specs/Cases.antt), by computation: one theorem over the table. And no files at all.
 -- Assumes nothing.
-use mathlib.Core.List.{map}
+use mathlib.Core.List.{[], map}
 use mathlib.Core.Path.{_≡_, refl}
 use Rattle.laws.specs.Find.{firstOf, firstIndex, any}
 use Rattle.laws.specs.Nest.{run}
@@ -8,7 +8,9 @@ use Rattle.laws.specs.Row.{row, each}
 use Rattle.field.specs.Bytes.{allOf, lawfulText}
 use Rattle.field.specs.Digits.{number as numberIn, numberOf as writtenNumber}
 use Rattle.field.specs.Texts.{padded, trimTo, trimmed, firstBytes, notGiven, base256, wordOf}
+use Rattle.record.specs.declared.reason.Finding.the-variants.{Fine}
 use Rattle.record.specs.Table.{colAt, formAt, widthAt, mustAt, beforeAt, afterAt, offsetAt, whichOf}
+use Rattle.record.specs.Files.{filesOf}
 use Rattle.record.specs.Cut.{countOf, recordOf, textOf}
 use Rattle.record.specs.Rules.{breaks10, breaks11, breaks20, breaks21, notNumber, notText, breaks22, breaks23, missingIn, partnersBlank, breaks24, outside, breaks25}
 use Rattle.record.specs.Breaks.{atPlace, shapeBreaks, recordBreaks, fieldBreaksAt, fieldBreaks, shapeFinding, fieldsFinding}
@@ -30,7 +32,7 @@ use Rattle.judge.specs.Cases.{ascii, Case, Outcome, outcome, table}
 pub cases : map (λ (c : Case × Outcome). outcome (c .0)) table ≡ map (λ (c : Case × Outcome). c .1) table
 unfolding
     ascii firstOf firstIndex any run row each allOf lawfulText numberIn writtenNumber padded trimTo trimmed firstBytes notGiven base256 wordOf
-    colAt formAt widthAt mustAt beforeAt afterAt offsetAt whichOf countOf recordOf textOf
+    colAt formAt widthAt mustAt beforeAt afterAt offsetAt whichOf filesOf countOf recordOf textOf
     breaks10 breaks11 breaks20 breaks21 notNumber notText breaks22 breaks23 missingIn partnersBlank breaks24 outside breaks25
     atPlace shapeBreaks recordBreaks fieldBreaksAt fieldBreaks shapeFinding fieldsFinding saidAs saidIn
     valueAt valuesSay valueOf joined refuses62 badText refuses63 blankAt partnersMissing refuses64 refuses65 valueBreaks valuesFinding answerIn
@@ -39,3 +41,10 @@ unfolding
     pointElsewhere breaks55 nodeUsed breaks56 objectIdle breaks57 breaks59 fifties fiftyReasons topologyIn topologyFinding
     groupAt judged countsOf verdictOf
 cases = refl
+
+-- NO FILES: nothing is broken
+pub no-files : judged (filesOf []) ≡ Fine
+unfolding
+    firstOf run whichOf filesOf countOf breaks10 breaks11 atPlace shapeBreaks fieldBreaksAt fieldBreaks shapeFinding fieldsFinding
+    groupFinding overFiles keysIn keysFinding topologyIn topologyFinding groupAt judged
+no-files = refl

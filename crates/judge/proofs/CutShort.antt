@@ -1,6 +1,6 @@
--- The verdict program need not read a file further than one byte past 8,192: its line (specs/Line.antt) stays.
+-- The verdict program need not read a file further than one byte past what it takes: its line (specs/Line.antt) stays.
 -- Assumes nothing.
-use Prim.Native.Nat.{ℕ, zero, suc}
+use Prim.Native.Nat.{ℕ, zero, suc, _+_}
 use mathlib.Core.Bool.{Bool, true, false}
 use mathlib.Core.List.{List}
 use mathlib.Core.Option.{Option, none, some}
@@ -17,11 +17,11 @@ use Rattle.record.specs.declared.kind.Kind.{Kind}
 use Rattle.record.specs.declared.kind.Which.{Which}
 use Rattle.record.specs.declared.kind.Which.the-variants.{NoFile, File}
 use Rattle.record.specs.Table.{whichOf}
+use Rattle.record.specs.Files.{Files}
 use Rattle.record.proofs.TableLaws.{sane}
 use Rattle.keys.specs.Rules.{orFirst}
 use Rattle.keys.proofs.GroupMeaning.{which-file}
-use Rattle.judge.specs.Verdict.{Files}
-use Rattle.judge.specs.Line.{isBig, bigOf, programLine}
+use Rattle.judge.specs.Line.{big, isBig, bigOf, programLine}
 use Rattle.judge.proofs.LineLaws.{bigAt, some-big-line}
 
 -- the first n + 1 bytes pass n exactly if all do
@@ -32,10 +32,10 @@ passes-same n s = go (ltb n (length s)) refl
     go true e = rw (length-take-le (suc n) s (ltb-true n (length s) e)) (lt-ltb n (suc n) (le-refl _))
     go false e = rw (take-all (suc n) s (omega (arith, ltb-false n (length s) e))) e
 
-module _ (files cut : Files) (h : (k : Kind) → cut k ≡ take 8193 (files k)) where
+module _ (files cut : Files) (h : (k : Kind) → cut k ≡ take (big + 1) (files k)) where
   big-same : (w : Which) → isBig cut w ≡ isBig files w
   big-same NoFile = refl
-  big-same (File k) = ap (λ (s : List ℕ). ltb 8192 (length s)) (h k) ∙ passes-same 8192 (files k)
+  big-same (File k) = ap (λ (s : List ℕ). ltb big (length s)) (h k) ∙ passes-same big (files k)
 
   first-big-same : bigOf cut ≡ bigOf files
   unfolding bigOf
@@ -47,7 +47,7 @@ module _ (files cut : Files) (h : (k : Kind) → cut k ≡ take 8193 (files k)) 
   none-cut e =
       fun-ext (λ k.
       let small = sym (ap (isBig files) (which-file k)) ∙ index-none-at (bigAt files) 8 e (omega (arith, sane k)) in
-      h k ∙ take-all 8193 (files k) (omega (arith, ltb-false 8192 (length (files k)) small)))
+      h k ∙ take-all (big + 1) (files k) (omega (arith, ltb-false big (length (files k)) small)))
 
   -- where one is, the line is its number
   some-big : (n : ℕ) → firstIndex (bigAt files) 8 ≡ some n → (bigOf files ≡ n) × (n ≡ 0 → ⊥)

@@ -1,7 +1,7 @@
 -- The verdict's finding means what specs/Broken.antt says, in terms of the rules' tests and the order of places alone, and no other
 -- finding does.
 -- Assumes nothing.
-use Prim.Native.Nat.{ℕ, zero, suc, _-_, _/_, _%_, _<_, _≤_}
+use Prim.Native.Nat.{ℕ, zero, suc, _+_, _-_, _/_, _%_, _<_, _≤_}
 use mathlib.Core.Bool.{Bool, true, false}
 use mathlib.Core.List.{[], _∷_}
 use mathlib.Core.Option.{Option, none, some}
@@ -22,6 +22,7 @@ use Rattle.record.specs.declared.reason.Break.{Break}
 use Rattle.record.specs.declared.reason.Finding.{Finding}
 use Rattle.record.specs.declared.reason.Finding.the-variants.{Fine, Broken}
 use Rattle.record.specs.Table.{fileOf, whichOf}
+use Rattle.record.specs.Files.{Files}
 use Rattle.record.specs.Breaks.{numberOf, breakOf, findingOf, tens, twentyReasons, shapeFinding, fieldsFinding}
 use Rattle.record.specs.Claims.{broken, MeansBy}
 use Rattle.record.proofs.TableLaws.{kinds, kind-at}
@@ -35,7 +36,7 @@ use Rattle.keys.proofs.Shown.{ShownBy, keys-shown}
 use Rattle.topology.specs.Rules.{fiftyReasons}
 use Rattle.topology.specs.Findings.{topologyIn, topologyFinding, topologyBroken}
 use Rattle.topology.proofs.Meaning.{topology-means, topology-shown}
-use Rattle.judge.specs.Verdict.{Files, groupAt, judged}
+use Rattle.judge.specs.Verdict.{groups, groupAt, judged}
 use Rattle.judge.specs.Broken.{isBroken, reasonOf, placeAt, First, Judges}
 
 -- a finding means the same of tests that are the same in its ten
@@ -129,15 +130,15 @@ module _ (files : Files) where
   ten-fine t e n k i f q = fine-means _ t k (over-fine (ten t .found) (sym (ten t .over) ∙ e) k) (ten t .means k) n i f q
 
   -- NOTHING is found
-  group-past : (t : ℕ) → 6 ≤ t → groupAt files t ≡ Fine
+  group-past : (t : ℕ) → groups < t → groupAt files t ≡ Fine
   unfolding groupAt
   group-past t l = let e : t ≡ suc (suc (suc (suc (suc (suc (t - 6)))))) = omega arith in ap (groupAt files) e
 
-  all-fine : firstOf (λ t. breakIn (groupAt files t)) 6 ≡ none → (t : ℕ) → groupAt files t ≡ Fine
-  all-fine e t = go (decLt t 6)
+  all-fine : firstOf (λ t. breakIn (groupAt files t)) (groups + 1) ≡ none → (t : ℕ) → groupAt files t ≡ Fine
+  all-fine e t = go (decLt t (groups + 1))
     where
-      go : Dec (t < 6) → groupAt files t ≡ Fine
-      go (yes l) = break-none _ (none-at _ 6 e l)
+      go : Dec (t < groups + 1) → groupAt files t ≡ Fine
+      go (yes l) = break-none _ (none-at _ (groups + 1) e l)
       go (no l) = group-past t (omega arith)
 
   -- A BREAK is found in file k: the tens below have none, and in its ten neither have the files below
@@ -167,12 +168,12 @@ module _ (files : Files) where
 
   pub exact : Judges files (judged files)
   unfolding judged Judges
-  exact = go (firstOf (λ t. breakIn (groupAt files t)) 6) refl
+  exact = go (firstOf (λ t. breakIn (groupAt files t)) (groups + 1)) refl
     where
-      go : (o : Option Break) → firstOf (λ t. breakIn (groupAt files t)) 6 ≡ o → Judges files (findingOf o)
+      go : (o : Option Break) → firstOf (λ t. breakIn (groupAt files t)) (groups + 1) ≡ o → Judges files (findingOf o)
       go none e = λ n k i f. ten-fine (n / 10) (all-fine e (n / 10)) n k i f refl
       go (some b) e =
-          let r = some-at _ 6 e in
+          let r = some-at _ (groups + 1) e in
           let w = over-broken (ten (r .0) .found) (sym (ten (r .0) .over) ∙ break-some _ (r .2)) in
           first-break (r .0) (w .0) b (λ t l. break-none _ (none-at _ (r .0) (r .3) l)) (w .1) (w .2)
 

@@ -27,6 +27,7 @@ use Rattle.record.specs.Cut.{countOf, recordOf, textOf}
 use Rattle.record.specs.Rules.{breaks10, breaks11, breaks20, breaks21, notNumber, breaks22, breaks23, missingIn, partnersBlank, breaks24, outside, breaks25, twenties}
 use Rattle.record.specs.Breaks.{findingOf, atPlace, twentyReasons, recordBreaks, shapeFinding, fieldsFinding}
 use Rattle.record.specs.Table.{limit}
+use Rattle.record.specs.Files.{Files}
 use Rattle.record.specs.Says.{saidAs, saidIn}
 use Rattle.record.proofs.TableLaws.{every, kinds, form-code}
 use Rattle.record.proofs.CutLaws.{record-past, record-long}
@@ -35,7 +36,7 @@ use Rattle.keys.specs.Delivery.{deliveryOf, isFreeWord}
 use Rattle.keys.specs.Groups.{breakIn, overFiles}
 use Rattle.keys.proofs.Agree.{Agrees, isRead, keys-agree}
 use Rattle.topology.proofs.Agree.{topology-agree}
-use Rattle.judge.specs.Verdict.{Files, groupAt, judged, countIn, countsOf, verdictOf}
+use Rattle.judge.specs.Verdict.{groups, groupAt, judged, countIn, countsOf, verdictOf}
 use Rattle.judge.specs.Words.{inFree, SameButWords}
 
 -- THE TABLE: a test of the places of every kind, computed once, holds at each
@@ -270,7 +271,7 @@ module _ (files others : Files) (w : SameButWords files others) where
 
   judged-same : judged files ≡ judged others
   unfolding judged
-  judged-same = ap findingOf (first-same _ _ 6 (λ t l. ap breakIn (group-same t)))
+  judged-same = ap findingOf (first-same _ _ (groups + 1) (λ t l. ap breakIn (group-same t)))
 
   counts-same : countsOf files ≡ countsOf others
   unfolding countsOf

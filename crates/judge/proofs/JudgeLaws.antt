@@ -10,9 +10,10 @@ use Rattle.record.specs.declared.kind.Which.{Which}
 use Rattle.record.specs.declared.reason.Finding.{Finding}
 use Rattle.record.specs.declared.reason.Finding.the-variants.{Fine}
 use Rattle.record.specs.Table.{whichOf}
+use Rattle.record.specs.Files.{Files}
 use Rattle.record.specs.Breaks.{shapeFinding, fieldsFinding}
 use Rattle.record.proofs.TableLaws.{NoneOf, numbers, default-at}
-use Rattle.judge.specs.Verdict.{Files, groupAt, countIn}
+use Rattle.judge.specs.Verdict.{groups, groupAt, countIn}
 
 -- a file's finding, of its shape or of its fields
 abbrev pub bytesIn : Bool → Files → Kind → Finding
@@ -27,6 +28,6 @@ unfolding countNo
 count-turn files n e h = rw (← e) h
 
 -- OF A TEN: the others have no reasons
-pub group-else : (files : Files) (t : ℕ) → NoneOf (numbers 1 5) t → Fine ≡ groupAt files t
+pub group-else : (files : Files) (t : ℕ) → NoneOf (numbers 1 groups) t → Fine ≡ groupAt files t
 unfolding groupAt
 group-else files t o = default-at Fine 1 (_ ∷ _ ∷ _ ∷ _ ∷ _ ∷ []) t o

@@ -1,5 +1,4 @@
 pub mod JudgeLaws
-pub mod SameFiles
 pub mod LineLaws
 pub mod CutShort
 pub mod FreeWords

@@ -18,10 +18,11 @@ use Rattle.record.specs.declared.kind.Which.{Which}
 use Rattle.record.specs.declared.reason.Break.{Break}
 use Rattle.record.specs.declared.reason.Finding.the-variants.{Fine, Broken}
 use Rattle.record.specs.Table.{whichOf}
+use Rattle.record.specs.Files.{Files}
 use Rattle.record.specs.Breaks.{numberOf}
 use Rattle.keys.specs.Rules.{orFirst}
 use Rattle.judge.specs.declared.judge.Verdict.{Verdict}
-use Rattle.judge.specs.Verdict.{Files, verdictOf}
+use Rattle.judge.specs.Verdict.{verdictOf}
 use Rattle.judge.specs.Line.{countWords, breakLine, lineOf, isBig, bigOf, bigLine, programLine}
 
 -- A WORD: a blank at a place, and a number's digits put behind it
@@ -127,19 +128,19 @@ pub big-start : (files : Files) → NoneBig files 0
 big-start files = record { within = omega arith; past = index-start _ }
 
 module _ {files : Files} {n : ℕ} (s : NoneBig files n) where
-  pub big-end : 8 ≤ n → 0 ≡ bigOf files
+  pub big-end : 7 < n → 0 ≡ bigOf files
   unfolding bigOf bigAt
   big-end u = ap orFirst (sym (index-end (bigAt files) 8 refl (s .within) u (s .past)))
 
   -- r says whether the file of the number n is big
-  module _ {w : Which} {r : Bool} (l : n < 8) (e : w ≡ whichOf n) (h : r ≡ isBig files w) where
+  module _ {w : Which} {r : Bool} (l : n ≤ 7) (e : w ≡ whichOf n) (h : r ≡ isBig files w) where
     big-turn : r ≡ bigAt files n
     unfolding bigAt
     big-turn = rw (← e) h
 
     pub big-here : r ≡ true → n ≡ bigOf files
     unfolding bigOf bigAt
-    big-here y = ap orFirst (sym (index-here (bigAt files) 8 (s .past) l (sym big-turn ∙ y)))
+    big-here y = ap orFirst (sym (index-here (bigAt files) 8 (s .past) (omega arith) (sym big-turn ∙ y)))
 
     pub big-more : r ≡ false → NoneBig files (n + 1)
     big-more y = record { within = omega arith; past = index-more _ (s .past) (sym big-turn ∙ y) }

@@ -1,7 +1,7 @@
 -- What the project promises, each promise stated in full in terms of specs/ alone; its proof cites where the work is done. The code's
 -- contracts say that `judge` gives verdictOf, `read` gives readOf, and `write` does Writes; docs/PROMISES.md has them in plain words.
 -- Assumes nothing.
-use Prim.Native.Nat.{ℕ, _-_, _≤_}
+use Prim.Native.Nat.{ℕ, _+_, _-_, _≤_}
 use mathlib.Core.Bool.{true, false}
 use mathlib.Core.List.{List, map, _++_}
 use mathlib.Core.Path.{_≡_, sym, _∙_}
@@ -11,6 +11,7 @@ use Rattle.record.specs.declared.kind.Which.the-variants.{File}
 use Rattle.record.specs.declared.reason.Reason.{Reason}
 use Rattle.record.specs.declared.reason.Finding.{Finding}
 use Rattle.record.specs.Table.{fieldsOf, lengthOf, whichOf}
+use Rattle.record.specs.Files.{Files}
 use Rattle.record.specs.Cut.{countOf, recordOf}
 use Rattle.record.specs.Rules.{twenties}
 use Rattle.codec.specs.declared.values.Values.{Values}
@@ -21,8 +22,8 @@ use Rattle.codec.specs.Values.{valuesSay}
 use Rattle.codec.specs.Calls.{readOf, Writes}
 use Rattle.codec.proofs.Theorems as one
 use Rattle.judge.specs.declared.judge.Verdict.{Verdict}
-use Rattle.judge.specs.Verdict.{Files, judged, verdictOf}
-use Rattle.judge.specs.Line.{programLine}
+use Rattle.judge.specs.Verdict.{judged, verdictOf}
+use Rattle.judge.specs.Line.{big, programLine}
 use Rattle.judge.specs.Broken.{Judges}
 use Rattle.judge.specs.Words.{SameButWords}
 use Rattle.judge.specs.Obeys.{Records, Obeys, madeOf, accepted, Shuffled}
@@ -88,8 +89,8 @@ writer-promise-any-order = writer.writer-promise-any-order
 pub free-words : (files others : Files) → SameButWords files others → verdictOf files ≡ verdictOf others
 free-words = words.free-words
 
--- The verdict program reads no more than 8,193 bytes of a file, and its line is that of the whole files.
-pub program-reads-enough : (files cut : Files) → ((k : Kind) → cut k ≡ take 8193 (files k)) → programLine cut ≡ programLine files
+-- The verdict program reads no more than one byte past the 8,192 that it takes of a file, and its line is that of the whole files.
+pub program-reads-enough : (files cut : Files) → ((k : Kind) → cut k ≡ take (big + 1) (files k)) → programLine cut ≡ programLine files
 program-reads-enough = short.cut-short
 
 -- 4. TIGHT: for each call, any two outcomes that its contract allows coincide.

@@ -22,7 +22,7 @@ use Rattle.keys.specs.declared.names.Target.the-variants.{Free, Nowhere, To}
 use Rattle.keys.specs.Delivery.{Delivery, ownLine, nameAt, vertexKey, keyOf, targets, targetOf}
 use Rattle.keys.specs.Rules.{repeats, breaks30, dangles, danglesTo, breaks40, typedIn, mistyped, breaks41, keyTests}
 use Rattle.keys.specs.Findings.{keysBroken}
-use Rattle.topology.specs.Rules.{isAt, placed, nodeIn, vertex, hasVertex, highestIn, highest, meets, elsewhere, tramoLine, gap, breaks50, alone, breaks51, startElsewhere, breaks52, endElsewhere, breaks53, samePlace, placedBefore, breaks54, pointElsewhere, breaks55, nodeUsed, breaks56, objectIdle, breaks57, breaks59, fifties}
+use Rattle.topology.specs.Rules.{isAt, placed, nodeIn, hasVertex, highestIn, highest, meets, elsewhere, tramoLine, gap, breaks50, alone, breaks51, startElsewhere, breaks52, endElsewhere, breaks53, samePlace, placedBefore, breaks54, pointElsewhere, breaks55, nodeUsed, breaks56, objectIdle, breaks57, breaks59, fifties}
 use Rattle.topology.specs.Findings.{topologyTests, topologyBroken}
 use Rattle.judge.proofs.NoneBroken.{NoTest, none-tests, tests-none}
 use Rattle.judge.proofs.Turns.{Turn, any-turn, earlier-turn, highest-turn}
@@ -161,22 +161,22 @@ module _ (d e : Delivery) (r : Rearranged d e) where
   keys-rearranged h k = tests-none (λ t. keyTests t e k) k (e k .count) (key-tests (λ j. none-tests (λ t. keyTests t d j) j (d j .count) (h j)) k)
 
   -- THE RULES of topology: of vertices,
-  vertex-there : (j : ℕ) → j < d Vertice .count → vertex e j ≡ vertex d (to Vertice j)
+  vertex-there : (j : ℕ) → j < d Vertice .count → keyOf Vertice (e Vertice) j ≡ keyOf Vertice (d Vertice) (to Vertice j)
   vertex-there = key-there Vertice
 
-  has-there : (x : ℕ) → hasVertex e x ≡ hasVertex d x
-  has-there x = names-there Vertice (vertex d) (vertex e) vertex-there x
+  has-there : (x : ℕ) → hasVertex (e Vertice) x ≡ hasVertex (d Vertice) x
+  has-there x = names-there Vertice (keyOf Vertice (d Vertice)) (keyOf Vertice (e Vertice)) vertex-there x
 
-  highest-there : (line : ℕ) → highest e line ≡ highest d line
-  highest-there line = ap (highestIn (vertex e) line) (r .count Vertice) ∙ highest-turn (r .turn Vertice) (vertex d) (vertex e) vertex-there line
+  highest-there : (line : ℕ) → highest (e Vertice) line ≡ highest (d Vertice) line
+  highest-there line = ap (highestIn (keyOf Vertice (e Vertice)) line) (r .count Vertice) ∙ highest-turn (r .turn Vertice) (keyOf Vertice (d Vertice)) (keyOf Vertice (e Vertice)) vertex-there line
 
-  gap-there : (i : ℕ) → i < d Vertice .count → gap (vertex e) (e Vertice .count) i ≡ gap (vertex d) (d Vertice .count) (to Vertice i)
+  gap-there : (i : ℕ) → i < d Vertice .count → gap (keyOf Vertice (e Vertice)) (e Vertice .count) i ≡ gap (keyOf Vertice (d Vertice)) (d Vertice .count) (to Vertice i)
   unfolding gap
-  gap-there i l = rw (vertex-there i l, has-there (vertex d (to Vertice i) - 1))
+  gap-there i l = rw (vertex-there i l, has-there (keyOf Vertice (d Vertice) (to Vertice i) - 1))
 
-  alone-there : (i : ℕ) → i < d Vertice .count → alone (vertex e) (e Vertice .count) i ≡ alone (vertex d) (d Vertice .count) (to Vertice i)
+  alone-there : (i : ℕ) → i < d Vertice .count → alone (keyOf Vertice (e Vertice)) (e Vertice .count) i ≡ alone (keyOf Vertice (d Vertice)) (d Vertice .count) (to Vertice i)
   unfolding alone
-  alone-there i l = rw (vertex-there i l, has-there (vertex d (to Vertice i) + 1))
+  alone-there i l = rw (vertex-there i l, has-there (keyOf Vertice (d Vertice) (to Vertice i) + 1))
 
   -- of ends and nodes,
   node-there : (name x y : ℕ) → nodeIn (e Nodo) name x y ≡ nodeIn (d Nodo) name x y
@@ -185,24 +185,24 @@ module _ (d e : Delivery) (r : Rearranged d e) where
       any-there Nodo _ _
       (λ j l. rw (name-there Nodo j 1 l (omega arith), r .says Nodo j 4 l (omega arith), r .says Nodo j 6 l (omega arith)))
 
-  meets-there : (key name : ℕ) → meets e key name ≡ meets d key name
+  meets-there : (key name : ℕ) → meets (e Vertice) (e Nodo) key name ≡ meets (d Vertice) (d Nodo) key name
   unfolding meets
   meets-there key name =
       any-there Vertice _ _
       (λ j l. rw (vertex-there j l, node-there, r .says Vertice j 4 l (omega arith), r .says Vertice j 6 l (omega arith)))
 
-  elsewhere-there : (key name : ℕ) → elsewhere e key name ≡ elsewhere d key name
+  elsewhere-there : (key name : ℕ) → elsewhere (e Vertice) (e Nodo) key name ≡ elsewhere (d Vertice) (d Nodo) key name
   elsewhere-there key name = ap₂ (λ (a b : Bool). a && not b) (has-there key) (meets-there key name)
 
-  start-there : (i : ℕ) → i < d Tramo .count → startElsewhere e i ≡ startElsewhere d (to Tramo i)
+  start-there : (i : ℕ) → i < d Tramo .count → startElsewhere (e Tramo) (e Vertice) (e Nodo) i ≡ startElsewhere (d Tramo) (d Vertice) (d Nodo) (to Tramo i)
   unfolding startElsewhere
   start-there i l = elsewhere-there _ _ ∙ rw (name-there Tramo i 4 l (omega arith), name-there Tramo i 6 l (omega arith))
 
-  end-there : (i : ℕ) → i < d Tramo .count → endElsewhere e i ≡ endElsewhere d (to Tramo i)
+  end-there : (i : ℕ) → i < d Tramo .count → endElsewhere (e Tramo) (e Vertice) (e Nodo) i ≡ endElsewhere (d Tramo) (d Vertice) (d Nodo) (to Tramo i)
   unfolding endElsewhere
   end-there i l = elsewhere-there _ _ ∙ rw (highest-there, name-there Tramo i 4 l (omega arith), name-there Tramo i 7 l (omega arith))
 
-  last-there : (i : ℕ) → i < d Tramo .count → eqb (highest e (tramoLine e i)) 0 ≡ eqb (highest d (tramoLine d (to Tramo i))) 0
+  last-there : (i : ℕ) → i < d Tramo .count → eqb (highest (e Vertice) (tramoLine (e Tramo) i)) 0 ≡ eqb (highest (d Vertice) (tramoLine (d Tramo) (to Tramo i))) 0
   last-there i l = rw (highest-there, name-there Tramo i 4 l (omega arith))
 
   same-there : (i j : ℕ) → i < d Nodo .count → j < d Nodo .count → samePlace (e Nodo) i j ≡ samePlace (d Nodo) (to Nodo i) (to Nodo j)
@@ -214,7 +214,7 @@ module _ (d e : Delivery) (r : Rearranged d e) where
           → eqb (placeIn (e Nodo .says j f)) (placeIn (e Nodo .says i f)) ≡ eqb (placeIn (d Nodo .says (to Nodo j) f)) (placeIn (d Nodo .says (to Nodo i) f))
       same-at f b = ap₂ (λ (x y : Said). eqb (placeIn x) (placeIn y)) (r .says Nodo j f m b) (r .says Nodo i f l b)
 
-  point-there : (i : ℕ) → i < d ObPun .count → pointElsewhere e i ≡ pointElsewhere d (to ObPun i)
+  point-there : (i : ℕ) → i < d ObPun .count → pointElsewhere (e ObPun) (e Nodo) i ≡ pointElsewhere (d ObPun) (d Nodo) (to ObPun i)
   unfolding pointElsewhere
   point-there i l =
       rw (name-there ObPun i 3 l (omega arith), r .says ObPun i 9 l (omega arith), r .says ObPun i 11 l (omega arith), node-there)
@@ -224,7 +224,7 @@ module _ (d e : Delivery) (r : Rearranged d e) where
   unfolding placed
   placed-there x y = any-there Vertice _ _ (λ j l. rw (r .says Vertice j 4 l (omega arith), r .says Vertice j 6 l (omega arith)))
 
-  used-there : (i : ℕ) → i < d Nodo .count → nodeUsed e i ≡ nodeUsed d (to Nodo i)
+  used-there : (i : ℕ) → i < d Nodo .count → nodeUsed (e ObPun) (e Tramo) (e Vertice) (e Nodo) i ≡ nodeUsed (d ObPun) (d Tramo) (d Vertice) (d Nodo) (to Nodo i)
   unfolding nodeUsed
   used-there i l =
       rw (name-there Nodo i 1 l (omega arith), r .says Nodo i 4 l (omega arith), r .says Nodo i 6 l (omega arith))
@@ -232,7 +232,7 @@ module _ (d e : Delivery) (r : Rearranged d e) where
       (ap₂ _||_ (names-there Tramo _ _ (λ j m. name-there Tramo j 7 m (omega arith)) _)
       (ap₂ _||_ (placed-there _ _) (names-there ObPun _ _ (λ j m. name-there ObPun j 3 m (omega arith)) _))))
 
-  idle-there : (i : ℕ) → i < d ObLin .count → objectIdle e i ≡ objectIdle d (to ObLin i)
+  idle-there : (i : ℕ) → i < d ObLin .count → objectIdle (e ObLin) (e Tramo) i ≡ objectIdle (d ObLin) (d Tramo) (to ObLin i)
   unfolding objectIdle
   idle-there i l =
       rw (name-there ObLin i 1 l (omega arith)) (ap not (names-there Tramo _ _ (λ j m. name-there Tramo j 2 m (omega arith)) _))
@@ -261,16 +261,16 @@ module _ (d e : Delivery) (r : Rearranged d e) where
     unfolding fifties breaks50 breaks51 breaks52 breaks53 breaks54 breaks55 breaks56 breaks57 breaks59
     fifties-there k i f u l b =
         falses
-        (more (told Vertice 2 (gap (vertex d) (d Vertice .count)) _ gap-there k i f l (no 0 (omega arith)))
-        (more (told Vertice 2 (alone (vertex d) (d Vertice .count)) _ alone-there k i f l (no 1 (omega arith)))
-        (more (told Tramo 6 (startElsewhere d) _ start-there k i f l (no 2 (omega arith)))
-        (more (told Tramo 7 (endElsewhere d) _ end-there k i f l (no 3 (omega arith)))
+        (more (told Vertice 2 (gap (keyOf Vertice (d Vertice)) (d Vertice .count)) _ gap-there k i f l (no 0 (omega arith)))
+        (more (told Vertice 2 (alone (keyOf Vertice (d Vertice)) (d Vertice .count)) _ alone-there k i f l (no 1 (omega arith)))
+        (more (told Tramo 6 (startElsewhere (d Tramo) (d Vertice) (d Nodo)) _ start-there k i f l (no 2 (omega arith)))
+        (more (told Tramo 7 (endElsewhere (d Tramo) (d Vertice) (d Nodo)) _ end-there k i f l (no 3 (omega arith)))
         (more (told Nodo 0 (λ j. false) _ none-54 k i f l (and-last (isAt Nodo 0 k f) false (λ _. refl)))
-        (more (told ObPun 3 (pointElsewhere d) _ point-there k i f l (no 5 (omega arith)))
-        (more (told Nodo 0 (λ j. not (nodeUsed d j)) _ (λ j m. ap not (used-there j m)) k i f l (no 6 (omega arith)))
-        (more (told ObLin 0 (objectIdle d) _ idle-there k i f l (no 7 (omega arith)))
+        (more (told ObPun 3 (pointElsewhere (d ObPun) (d Nodo)) _ point-there k i f l (no 5 (omega arith)))
+        (more (told Nodo 0 (λ j. not (nodeUsed (d ObPun) (d Tramo) (d Vertice) (d Nodo) j)) _ (λ j m. ap not (used-there j m)) k i f l (no 6 (omega arith)))
+        (more (told ObLin 0 (objectIdle (d ObLin) (d Tramo)) _ idle-there k i f l (no 7 (omega arith)))
         (more refl
-        (more (told Tramo 4 (λ j. eqb (highest d (tramoLine d j)) 0) _ last-there k i f l (no 9 (omega arith))) end))))))))))
+        (more (told Tramo 4 (λ j. eqb (highest (d Vertice) (tramoLine (d Tramo) j)) 0) _ last-there k i f l (no 9 (omega arith))) end))))))))))
         u
       where
         no : (u : ℕ) → u < 10 → getD (fifties d k (to k i) f) u false ≡ false

@@ -14,6 +14,7 @@ use Rattle.laws.proofs.RowLaws.{picked}
 use Rattle.record.specs.declared.reason.Break.{Break}
 use Rattle.record.specs.declared.reason.Finding.{Finding}
 use Rattle.record.specs.declared.reason.Finding.the-variants.{Fine}
+use Rattle.record.specs.Files.{Files}
 use Rattle.record.specs.Breaks.{findingOf, fine}
 use Rattle.keys.specs.Delivery.{Delivery, deliveryOf}
 use Rattle.keys.specs.Rules.{keyTests, keyReasons}
@@ -22,7 +23,7 @@ use Rattle.keys.specs.Findings.{keysIn, keysFinding}
 use Rattle.topology.specs.Rules.{fiftyReasons}
 use Rattle.topology.specs.Findings.{topologyIn, topologyFinding, topologyTests}
 use Rattle.lawful.specs.Shown.{Unbroken}
-use Rattle.judge.specs.Verdict.{Files, groupAt, judged}
+use Rattle.judge.specs.Verdict.{groupAt, judged}
 use Rattle.judge.proofs.NoneBroken.{over-fine, tests-none, none-broken-fine}
 
 -- THE FIRST m of n, v being their finding and r whether it is nothing

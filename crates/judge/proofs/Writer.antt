@@ -1,6 +1,6 @@
 -- What the writer promises: of values that obey the rules, in any order, it makes files that the verdict accepts.
 -- Assumes nothing.
-use Prim.Native.Nat.{ℕ, zero, suc}
+use Prim.Native.Nat.{ℕ, zero, suc, _+_}
 use mathlib.Core.Bool.{false}
 use mathlib.Core.List.{List, [], _∷_}
 use mathlib.Core.Path.{_≡_, refl, ap, _∙_}
@@ -20,7 +20,7 @@ use Rattle.keys.specs.Findings.{keysBroken, keysIn, keysFinding}
 use Rattle.topology.specs.Rules.{fiftyReasons}
 use Rattle.topology.specs.Findings.{topologyTests, topologyBroken, topologyIn, topologyFinding}
 use Rattle.judge.specs.declared.judge.Verdict.{Verdict}
-use Rattle.judge.specs.Verdict.{groupAt, judged, countsOf, verdictOf}
+use Rattle.judge.specs.Verdict.{groups, groupAt, judged, countsOf, verdictOf}
 use Rattle.judge.specs.Obeys.{Records, tablesOf, Obeys, madeOf, Shuffled, lengthsOf, accepted}
 use Rattle.judge.proofs.NoneBroken.{over-fine, none-broken-fine}
 use Rattle.judge.proofs.Made.{count-written, shape-written, fields-written, said-written}
@@ -66,7 +66,7 @@ module _ (vs : Records) (o : Obeys vs) where
 
   made-fine : judged (madeOf vs) ≡ Fine
   unfolding judged
-  made-fine = ap findingOf (first-none _ 6 (λ t l. ap breakIn (group-fine t)))
+  made-fine = ap findingOf (first-none _ (groups + 1) (λ t l. ap breakIn (group-fine t)))
 
   made-counts : countsOf (madeOf vs) ≡ lengthsOf vs
   unfolding countsOf row whichOf

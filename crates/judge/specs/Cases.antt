@@ -13,6 +13,7 @@ use Rattle.record.specs.declared.kind.Kind.the-variants.{Catalogo, ObPun, ObTex
 use Rattle.record.specs.declared.reason.Finding.{Finding}
 use Rattle.record.specs.declared.reason.Finding.the-variants.{Fine, Broken}
 use Rattle.record.specs.Table.{fieldsOf, lengthOf, widthAt}
+use Rattle.record.specs.Files.{Files, filesOf}
 use Rattle.record.specs.Breaks.{numberOf}
 use Rattle.record.specs.Says.{number, coordinate}
 use Rattle.codec.specs.declared.values.Values.{Values}
@@ -21,8 +22,7 @@ use Rattle.codec.specs.declared.values.Answer.the-variants.{Done, Refused}
 use Rattle.codec.specs.Values.{noValue, valueOf}
 use Rattle.codec.specs.Writes.{joined}
 use Rattle.codec.specs.Calls.{answerIn}
-use Rattle.keys.specs.Delivery.{filesOf}
-use Rattle.judge.specs.Verdict.{Files, verdictOf}
+use Rattle.judge.specs.Verdict.{verdictOf}
 
 -- THE BYTES of a text
 unfoldable pub ascii : String → List ℕ
@@ -69,7 +69,7 @@ vertices = vertex "00001" "000000100" ++ vertex "00002" "000000140"
 
 -- S with other files 4 to 7
 abbrev pub delivery : List ℕ → List ℕ → List ℕ → List ℕ → Files
-delivery = filesOf codes [] []
+delivery lines tramos vertices nodes = filesOf (codes ∷ [] ∷ [] ∷ lines ∷ tramos ∷ vertices ∷ nodes ∷ [])
 
 abbrev pub S : Files
 S = delivery objects tramos vertices (node1 ++ node2)
@@ -113,7 +113,7 @@ table =
     -- node 1's record
     ∷ (bytes node1, these (ascii "0000000001| |+|000000100|+|0000000200| |        \r\n"))
     -- 1: seven empty files
-    ∷ (judging (λ k. []), OK (0 ∷ 0 ∷ 0 ∷ 0 ∷ 0 ∷ 0 ∷ 0 ∷ []))
+    ∷ (judging (filesOf []), OK (0 ∷ 0 ∷ 0 ∷ 0 ∷ 0 ∷ 0 ∷ 0 ∷ []))
     -- 2: S
     ∷ (judging S, OK (2 ∷ 0 ∷ 0 ∷ 1 ∷ 1 ∷ 2 ∷ 2 ∷ []))
     -- 3: node 2 at X 141

@@ -14,10 +14,11 @@ use Rattle.record.specs.declared.reason.Break.{Break}
 use Rattle.record.specs.declared.reason.Finding.{Finding}
 use Rattle.record.specs.declared.reason.Finding.the-variants.{Fine, Broken}
 use Rattle.record.specs.Table.{whichOf}
+use Rattle.record.specs.Files.{Files}
 use Rattle.record.specs.Breaks.{numberOf}
 use Rattle.keys.specs.Rules.{orFirst}
 use Rattle.judge.specs.declared.judge.Verdict.{Verdict}
-use Rattle.judge.specs.Verdict.{Files, verdictOf}
+use Rattle.judge.specs.Verdict.{verdictOf}
 
 -- each count after a blank, in five digits
 unfoldable pub countWords : List ℕ → List ℕ
@@ -37,10 +38,14 @@ lineFor (Broken b) counts = breakLine b
 unfoldable pub lineOf : Verdict → List ℕ
 lineOf v = lineFor (v .finding) (v .counts)
 
--- the file passes 8,192 bytes
+-- the program takes no file of more bytes
+abbrev pub big : ℕ
+big = 8192
+
+-- the file has more
 abbrev pub isBig : Files → Which → Bool
 isBig files NoFile = false
-isBig files (File k) = ltb 8192 (length (files k))
+isBig files (File k) = ltb big (length (files k))
 
 -- the lowest number of such a file, and 0 where none is
 unfoldable pub bigOf : Files → ℕ

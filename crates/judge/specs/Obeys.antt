@@ -9,6 +9,7 @@ use Rattle.record.specs.declared.kind.Kind.{Kind}
 use Rattle.record.specs.declared.kind.Kind.the-variants.{Catalogo, ObPun, ObTex, ObLin, Tramo, Vertice, Nodo}
 use Rattle.record.specs.declared.reason.Finding.the-variants.{Fine}
 use Rattle.record.specs.Table.{limit}
+use Rattle.record.specs.Files.{Files}
 use Rattle.codec.specs.declared.values.Values.{Values}
 use Rattle.codec.specs.Values.{noValue, valuesSay}
 use Rattle.codec.specs.Writes.{encode}
@@ -17,7 +18,6 @@ use Rattle.keys.specs.Delivery.{Delivery}
 use Rattle.keys.specs.Findings.{keysBroken}
 use Rattle.topology.specs.Findings.{topologyBroken}
 use Rattle.judge.specs.declared.judge.Verdict.{Verdict}
-use Rattle.judge.specs.Verdict.{Files}
 
 -- for each file the values of its records
 abbrev pub Records : Type 0

@@ -5,12 +5,12 @@ use mathlib.Core.List.{List, [], _∷_}
 use lib.ListN.{getD}
 use Rattle.laws.specs.Find.{firstOf}
 use Rattle.laws.specs.Row.{row}
-use Rattle.record.specs.declared.kind.Kind.{Kind}
 use Rattle.record.specs.declared.kind.Which.{Which}
 use Rattle.record.specs.declared.kind.Which.the-variants.{NoFile, File}
 use Rattle.record.specs.declared.reason.Finding.{Finding}
 use Rattle.record.specs.declared.reason.Finding.the-variants.{Fine}
 use Rattle.record.specs.Table.{whichOf}
+use Rattle.record.specs.Files.{Files}
 use Rattle.record.specs.Cut.{countOf}
 use Rattle.record.specs.Breaks.{findingOf, shapeFinding, fieldsFinding}
 use Rattle.keys.specs.Delivery.{Delivery, deliveryOf}
@@ -19,9 +19,9 @@ use Rattle.keys.specs.Findings.{keysFinding}
 use Rattle.topology.specs.Findings.{topologyFinding}
 use Rattle.judge.specs.declared.judge.Verdict.{Verdict}
 
--- the bytes of each file
-abbrev pub Files : Type 0
-Files = Kind → List ℕ
+-- the groups of reasons, by their tens: 10 to 50
+abbrev pub groups : ℕ
+groups = 5
 
 -- the first break of the reasons of a ten
 unfoldable pub groupAt : Files → ℕ → Finding
@@ -38,7 +38,7 @@ groupAt files t =
 
 -- the first break, the tens in their order
 unfoldable pub judged : Files → Finding
-judged files = findingOf (firstOf (λ t. breakIn (groupAt files t)) 6)
+judged files = findingOf (firstOf (λ t. breakIn (groupAt files t)) (groups + 1))
 
 -- a count is the number of whole records in that file's bytes
 abbrev pub countIn : Files → Which → ℕ

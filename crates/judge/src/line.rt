@@ -2,18 +2,22 @@
 use crate::judge::Verdict;
 use crate::judge::judge;
 use field::number::put_number;
-use keys::names::file_of;
+use record::files::file_of;
+use record::kind::FILES;
 use record::kind::Which;
 use record::kind::kind_of;
 use record::reason::Break;
 use record::reason::Finding;
 ghost use mathlib.Core.Path.{_≡_};
-ghost use mathlib.Core.List.{List, _++_, _∷_, []};
+ghost use mathlib.Core.List.{List, _++_, _∷_, [], map};
 ghost use Prim.Native.Nat.{ℕ, _+_, _≤_, _<_};
 ghost use lib.ListN.{length, take, drop};
-ghost use Rattle.keys.specs.Delivery.{filesOf};
+ghost use Rattle.record.specs.Files.{filesOf};
 ghost use Rattle.judge.specs.Line.{countWords, breakLine, lineOf, isBig, bigOf, bigLine, programLine};
 ghost use Rattle.field.specs.Digits.{digits};
+
+// The program takes no file of more bytes.
+pub const BIG: usize = 8192;
 
 // A line of up to 45 bytes, its line feed among them.
 pub struct Line {
@@ -33,7 +37,7 @@ fn put_word(buf: &mut [u8], at: usize, w: usize, n: usize) -> usize
     next
 }
 
-fn count_line(counts: [usize; 7]) -> Line
+fn count_line(counts: [usize; FILES]) -> Line
     ensures { λ r. ⌜ take (r .len) (r .bytes) ≡ 79 ∷ 75 ∷ countWords counts ⌝ }
     ensures long { λ r. ⌜ r .len ≡ 45 ⌝ }
 {
@@ -42,7 +46,7 @@ fn count_line(counts: [usize; 7]) -> Line
     bytes[1] = 75;
     let mut at = 2;
     let mut i = 0;
-    while i < 7 {
+    while i < FILES {
         at = put_word(&mut bytes, at, 5, counts[i]);
         i += 1;
     }
@@ -79,51 +83,23 @@ pub fn line_of(v: Verdict) -> Line
     }
 }
 
-// Whether the file passes 8,192 bytes.
-fn is_big<'a>(
-    which: Which,
-    catalogo: &'a [u8],
-    ob_pun: &'a [u8],
-    ob_tex: &'a [u8],
-    ob_lin: &'a [u8],
-    tramo: &'a [u8],
-    vertice: &'a [u8],
-    nodo: &'a [u8],
-) -> bool
-    ensures { λ r. ⌜ r ≡ isBig (filesOf (now (catalogo .entry)) (now («ob_pun» .entry)) (now («ob_tex» .entry)) (now («ob_lin» .entry)) (now (tramo .entry)) (now (vertice .entry)) (now (nodo .entry))) which ⌝ }
+// Whether the file has more.
+fn is_big<'a>(which: Which, files: [&'a [u8]; FILES]) -> bool
+    ensures { λ r. ⌜ r ≡ isBig (filesOf (map now (files .entry))) which ⌝ }
 {
     match which {
         Which::NoFile => false,
-        Which::File(k) => {
-            8192 < file_of(k, catalogo, ob_pun, ob_tex, ob_lin, tramo, vertice, nodo).len()
-        }
+        Which::File(k) => { BIG < file_of(files, k).len() }
     }
 }
 
-// The number of the first file that passes 8,192 bytes, and 0 where none does.
-fn first_big<'a>(
-    catalogo: &'a [u8],
-    ob_pun: &'a [u8],
-    ob_tex: &'a [u8],
-    ob_lin: &'a [u8],
-    tramo: &'a [u8],
-    vertice: &'a [u8],
-    nodo: &'a [u8],
-) -> usize
-    ensures { λ r. ⌜ r ≡ bigOf (filesOf (now (catalogo .entry)) (now («ob_pun» .entry)) (now («ob_tex» .entry)) (now («ob_lin» .entry)) (now (tramo .entry)) (now (vertice .entry)) (now (nodo .entry))) ⌝ }
+// The number of the first file that has more, and 0 where none does.
+fn first_big<'a>(files: [&'a [u8]; FILES]) -> usize
+    ensures { λ r. ⌜ r ≡ bigOf (filesOf (map now (files .entry))) ⌝ }
 {
     let mut n = 0;
-    while n < 8 {
-        if is_big(
-            kind_of(n),
-            catalogo,
-            ob_pun,
-            ob_tex,
-            ob_lin,
-            tramo,
-            vertice,
-            nodo,
-        ) {
+    while n <= FILES {
+        if is_big(kind_of(n), files) {
             return n;
         }
         n += 1;
@@ -145,21 +121,13 @@ fn big_line(file: usize) -> Line
 }
 
 // The line that the program prints of seven files, in any state; an absent one is empty.
-pub fn program_line<'a>(
-    catalogo: &'a [u8],
-    ob_pun: &'a [u8],
-    ob_tex: &'a [u8],
-    ob_lin: &'a [u8],
-    tramo: &'a [u8],
-    vertice: &'a [u8],
-    nodo: &'a [u8],
-) -> Line
-    ensures { λ r. ⌜ take (r .len) (r .bytes) ≡ programLine (filesOf (now (catalogo .entry)) (now («ob_pun» .entry)) (now («ob_tex» .entry)) (now («ob_lin» .entry)) (now (tramo .entry)) (now (vertice .entry)) (now (nodo .entry))) ⌝ }
+pub fn program_line<'a>(files: [&'a [u8]; FILES]) -> Line
+    ensures { λ r. ⌜ take (r .len) (r .bytes) ≡ programLine (filesOf (map now (files .entry))) ⌝ }
     ensures within { λ r. ⌜ r .len ≤ 45 ⌝ }
 {
-    let big = first_big(catalogo, ob_pun, ob_tex, ob_lin, tramo, vertice, nodo);
+    let big = first_big(files);
     if big == 0 {
-        line_of(judge(catalogo, ob_pun, ob_tex, ob_lin, tramo, vertice, nodo))
+        line_of(judge(files))
     } else {
         big_line(big)
     }

@@ -1,10 +1,8 @@
 -- `judge::judge::check_group` meets its contract, by the ten.
 -- Assumes nothing.
-use mathlib.Core.Path.{_∙_}
 use borrow.Author.Needs.{needs}
 use Rattle.judge.specs.Verdict.{groupAt}
 use Rattle.judge.proofs.JudgeLaws.{group-else}
-use Rattle.judge.proofs.SameFiles.{topology-same}
 use Rattle.judge.proofs.judge.check_group.Statement.{statement}
 use Rattle.judge.proofs.judge.check_group.Tie as tie
 
@@ -41,7 +39,7 @@ returns-4 c = rw (c .before .match .keys4) (c .check-keys2 .ensures)
 
 returns-5 : tie.Need-returns-5
 unfolding groupAt
-returns-5 c = rw (c .before .match .keys5) (c .check-topology .ensures ∙ topology-same _ _ _ _ _ _ _ _ _)
+returns-5 c = rw (c .before .match .keys5) (c .check-topology .ensures)
 
 returns-6 : tie.Need-returns-6
 returns-6 c = group-else _ _ (c .match .rest)

@@ -1,25 +1,26 @@
 -- `judge::judge::count_all` meets its contract. The loop's invariant: the counts of the files before are those of the row.
 -- Assumes nothing.
 use Prim.Native.Nat.{_-_, _≤_}
-use mathlib.Core.List.{[]}
+use mathlib.Core.List.{[], map}
 use mathlib.Core.Path.{_≡_, refl}
 use native.Mathlib.Omega.{arith}
 use lib.ListN.{length, take, length-set}
+use denote.Ref.{now}
 use borrow.Author.Needs.{needs}
 use Rattle.laws.specs.Row.{row}
 use Rattle.laws.proofs.RowLaws.{row-start, row-more, row-end}
-use Rattle.keys.specs.Delivery.{filesOf}
+use Rattle.record.specs.Files.{filesOf}
 use Rattle.judge.specs.Verdict.{countsOf}
 use Rattle.judge.proofs.JudgeLaws.{countNo, count-turn}
 use Rattle.judge.proofs.judge.count_all.Statement.{statement}
 use Rattle.judge.proofs.judge.count_all.Tie as tie
 
 abbrev Inv-loop : tie.InvT-loop
-Inv-loop catalogo ob-pun ob-tex ob-lin tramo vertice nodo counts₀ n₀ counts n =
-    (n ≤ 7) × (length counts ≡ 7) × (take n counts ≡ row (countNo (filesOf catalogo ob-pun ob-tex ob-lin tramo vertice nodo)) n)
+Inv-loop files counts₀ n₀ counts n =
+    (n ≤ 7) × (length counts ≡ 7) × (take n counts ≡ row (countNo (filesOf (map now files))) n)
 
 abbrev μ-loop : tie.MeasureT-loop
-μ-loop catalogo ob-pun ob-tex ob-lin tramo vertice nodo counts₀ n₀ counts n = 7 - n
+μ-loop files counts₀ n₀ counts n = 7 - n
 
 loop-holds : tie.Need-loop-holds Inv-loop μ-loop
 loop-holds c = (omega arith, refl, row-start _ [])

@@ -1,21 +1,23 @@
 -- `judge::judge::first_from` meets its contract. The loop's invariant: the tens before `t` give nothing.
 -- Assumes nothing.
 use Prim.Native.Nat.{_-_}
+use mathlib.Core.List.{map}
+use denote.Ref.{now}
 use borrow.Author.Needs.{needs}
-use Rattle.keys.specs.Delivery.{filesOf}
+use Rattle.record.specs.Files.{filesOf}
 use Rattle.keys.proofs.CellLaws.{Fines, fines-from, fines-more, fines-here, fines-end}
 use Rattle.judge.specs.Verdict.{groupAt}
 use Rattle.judge.proofs.judge.first_from.Statement.{statement}
 use Rattle.judge.proofs.judge.first_from.Tie as tie
 
 abbrev Inv-loop : tie.InvT-loop
-Inv-loop from end catalogo ob-pun ob-tex ob-lin tramo vertice nodo t₀ t = Fines (groupAt (filesOf catalogo ob-pun ob-tex ob-lin tramo vertice nodo)) end t
+Inv-loop from end files t₀ t = Fines (groupAt (filesOf (map now files))) end t
 
 abbrev μ-loop : tie.MeasureT-loop
-μ-loop from end catalogo ob-pun ob-tex ob-lin tramo vertice nodo t₀ t = end - t
+μ-loop from end files t₀ t = end - t
 
 loop-holds : tie.Need-loop-holds Inv-loop μ-loop
-loop-holds c = fines-from (c .before .before .before .before .before .before .before .pre .0) (c .before .before .before .before .before .before .before .pre .1)
+loop-holds c = fines-from (c .pre .0) (c .pre .1)
 
 check-group-requires : tie.Need-check-group-requires Inv-loop μ-loop
 check-group-requires c κs = search needs
