@@ -9,17 +9,17 @@ use Rattle.field.specs.Bytes.{allOf, lawfulText}
 use Rattle.field.specs.Digits.{number as numberIn, numberOf as writtenNumber}
 use Rattle.field.specs.Texts.{padded, trimTo, trimmed, firstBytes, notGiven, base256, wordOf}
 use Rattle.record.specs.declared.reason.Finding.the-variants.{Fine}
-use Rattle.record.specs.Table.{colAt, formAt, widthAt, mustAt, beforeAt, afterAt, offsetAt, whichOf}
+use Rattle.record.specs.Table.{colAt, formAt, widthAt, mustAt, backAt, aheadAt, domainAt, ownAt, offsetAt, whichOf, targetOf}
 use Rattle.record.specs.Files.{filesOf}
 use Rattle.record.specs.Cut.{countOf, recordOf, textOf}
-use Rattle.record.specs.Rules.{breaks10, breaks11, breaks20, breaks21, notNumber, notText, breaks22, breaks23, missingIn, partnersBlank, breaks24, outside, breaks25}
+use Rattle.record.specs.Rules.{breaks10, breaks11, breaks20, breaks21, notNumber, notText, breaks22, breaks23, missingIn, partnersBlank, breaks24, inDomain, outside, breaks25}
 use Rattle.record.specs.Breaks.{atPlace, shapeBreaks, recordBreaks, fieldBreaksAt, fieldBreaks, shapeFinding, fieldsFinding}
 use Rattle.record.specs.Says.{saidAs, saidIn}
 use Rattle.codec.specs.Values.{valueAt, valuesSay, valueOf}
 use Rattle.codec.specs.Writes.{joined}
 use Rattle.codec.specs.Refusals.{refuses62, badText, refuses63, blankAt, partnersMissing, refuses64, refuses65, valueBreaks, valuesFinding}
 use Rattle.codec.specs.Calls.{answerIn}
-use Rattle.keys.specs.Delivery.{nameAt, keyOf, targetOf}
+use Rattle.record.specs.Names.{nameAt, keyOf}
 use Rattle.keys.specs.Rules.{repeats, breaks30, dangles, breaks40, typedIn, mistyped, breaks41, keyTests, keyReasons}
 use Rattle.keys.specs.Groups.{cellBreak, groupFinding, overFiles}
 use Rattle.keys.specs.Findings.{keysIn, keysFinding}
@@ -32,8 +32,8 @@ use Rattle.judge.specs.Cases.{ascii, Case, Outcome, outcome, table}
 pub cases : map (λ (c : Case × Outcome). outcome (c .0)) table ≡ map (λ (c : Case × Outcome). c .1) table
 unfolding
     ascii firstOf firstIndex any run row each allOf lawfulText numberIn writtenNumber padded trimTo trimmed firstBytes notGiven base256 wordOf
-    colAt formAt widthAt mustAt beforeAt afterAt offsetAt whichOf filesOf countOf recordOf textOf
-    breaks10 breaks11 breaks20 breaks21 notNumber notText breaks22 breaks23 missingIn partnersBlank breaks24 outside breaks25
+    colAt formAt widthAt mustAt backAt aheadAt domainAt ownAt offsetAt whichOf filesOf countOf recordOf textOf
+    breaks10 breaks11 breaks20 breaks21 notNumber notText breaks22 breaks23 missingIn partnersBlank breaks24 inDomain outside breaks25
     atPlace shapeBreaks recordBreaks fieldBreaksAt fieldBreaks shapeFinding fieldsFinding saidAs saidIn
     valueAt valuesSay valueOf joined refuses62 badText refuses63 blankAt partnersMissing refuses64 refuses65 valueBreaks valuesFinding answerIn
     nameAt keyOf targetOf repeats breaks30 dangles breaks40 typedIn mistyped breaks41 keyTests keyReasons cellBreak groupFinding overFiles keysIn keysFinding

@@ -16,7 +16,7 @@ use Rattle.laws.proofs.FindLaws.{true-false, index-same, index-none-at, index-s
 use Rattle.record.specs.declared.kind.Kind.{Kind}
 use Rattle.record.specs.declared.kind.Which.{Which}
 use Rattle.record.specs.declared.kind.Which.the-variants.{NoFile, File}
-use Rattle.record.specs.Table.{whichOf}
+use Rattle.record.specs.Table.{whichOf, fileCount}
 use Rattle.record.specs.Files.{Files}
 use Rattle.record.proofs.TableLaws.{sane}
 use Rattle.keys.specs.Rules.{orFirst}
@@ -39,26 +39,26 @@ module _ (files cut : Files) (h : (k : Kind) → cut k ≡ take (big + 1) (files
 
   first-big-same : bigOf cut ≡ bigOf files
   unfolding bigOf
-  first-big-same = ap orFirst (index-same _ _ 8 (λ n l. big-same (whichOf n)))
+  first-big-same = ap orFirst (index-same _ _ (fileCount + 1) (λ n l. big-same (whichOf n)))
 
   -- where no file is big, nothing is cut;
-  none-cut : firstIndex (bigAt files) 8 ≡ none → cut ≡ files
+  none-cut : firstIndex (bigAt files) (fileCount + 1) ≡ none → cut ≡ files
   unfolding bigAt
   none-cut e =
       fun-ext (λ k.
-      let small = sym (ap (isBig files) (which-file k)) ∙ index-none-at (bigAt files) 8 e (omega (arith, sane k)) in
+      let small = sym (ap (isBig files) (which-file k)) ∙ index-none-at (bigAt files) (fileCount + 1) e (omega (arith, sane k)) in
       h k ∙ take-all (big + 1) (files k) (omega (arith, ltb-false big (length (files k)) small)))
 
   -- where one is, the line is its number
-  some-big : (n : ℕ) → firstIndex (bigAt files) 8 ≡ some n → (bigOf files ≡ n) × (n ≡ 0 → ⊥)
+  some-big : (n : ℕ) → firstIndex (bigAt files) (fileCount + 1) ≡ some n → (bigOf files ≡ n) × (n ≡ 0 → ⊥)
   unfolding bigOf bigAt whichOf
-  some-big zero e = absurd (true-false (sym (index-some-at (bigAt files) 8 e .1)))
+  some-big zero e = absurd (true-false (sym (index-some-at (bigAt files) (fileCount + 1) e .1)))
   some-big (suc n) e = (ap orFirst e, λ z. omega arith)
 
   pub cut-short : programLine cut ≡ programLine files
   cut-short = go (firstIndex (bigAt files) 8) refl
     where
-      go : (o : Option ℕ) → firstIndex (bigAt files) 8 ≡ o → programLine cut ≡ programLine files
+      go : (o : Option ℕ) → firstIndex (bigAt files) (fileCount + 1) ≡ o → programLine cut ≡ programLine files
       go none e = ap programLine (none-cut e)
       go (some n) e =
           let b = some-big n e in

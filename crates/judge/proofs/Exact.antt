@@ -21,13 +21,12 @@ use Rattle.record.specs.declared.reason.Reason.the-variants.{LongFile10}
 use Rattle.record.specs.declared.reason.Break.{Break}
 use Rattle.record.specs.declared.reason.Finding.{Finding}
 use Rattle.record.specs.declared.reason.Finding.the-variants.{Fine, Broken}
-use Rattle.record.specs.Table.{fileOf, whichOf}
-use Rattle.record.specs.Files.{Files}
+use Rattle.record.specs.Table.{fileOf, whichOf, kinds}
+use Rattle.record.specs.Files.{Files, Delivery, deliveryOf}
 use Rattle.record.specs.Breaks.{numberOf, breakOf, findingOf, tens, twentyReasons, shapeFinding, fieldsFinding}
 use Rattle.record.specs.Claims.{broken, MeansBy}
-use Rattle.record.proofs.TableLaws.{kinds, kind-at}
+use Rattle.record.proofs.TableLaws.{kind-at}
 use Rattle.record.proofs.Meaning.{shape-means, fields-means, means-shown}
-use Rattle.keys.specs.Delivery.{Delivery, deliveryOf}
 use Rattle.keys.specs.Rules.{keyReasons}
 use Rattle.keys.specs.Groups.{Reasons, breakIn, overFiles}
 use Rattle.keys.specs.Findings.{keysIn, keysFinding, keysBroken}

@@ -21,22 +21,25 @@ use Rattle.record.specs.declared.kind.Kind.{Kind}
 use Rattle.record.specs.declared.kind.Which.{Which}
 use Rattle.record.specs.declared.kind.Which.the-variants.{NoFile, File}
 use Rattle.record.specs.declared.kind.Form.{Form}
-use Rattle.record.specs.declared.kind.Form.the-variants.{Words, Code, Tipo, Sense, Sign, Number, Size}
-use Rattle.record.specs.Table.{colAt, formAt, widthAt, mustAt, beforeAt, afterAt, offsetAt, fieldsOf, lengthOf, whichOf, codeOf, formOf}
+use Rattle.record.specs.declared.kind.Form.the-variants.{Words, Code, Sign, Number, Size}
+use Rattle.record.specs.declared.kind.Domain.{Domain}
+use Rattle.record.specs.declared.kind.Domain.the-variants.{Any}
+use Rattle.record.specs.Table.{colAt, formAt, widthAt, mustAt, backAt, aheadAt, domainAt, offsetAt, fieldsOf, lengthOf, kinds, required, isFreeWord}
+use Rattle.record.specs.machinery.Packed.{formDigit, formOf, domainDigit, domainOf}
 use Rattle.record.specs.Cut.{countOf, recordOf, textOf}
-use Rattle.record.specs.Rules.{breaks10, breaks11, breaks20, breaks21, notNumber, breaks22, breaks23, missingIn, partnersBlank, breaks24, outside, breaks25, twenties}
+use Rattle.record.specs.Rules.{breaks10, breaks11, breaks20, breaks21, notNumber, breaks22, breaks23, missingIn, partnersBlank, breaks24, inDomain, outside, breaks25, twenties}
 use Rattle.record.specs.Breaks.{findingOf, atPlace, twentyReasons, recordBreaks, shapeFinding, fieldsFinding}
-use Rattle.record.specs.Table.{limit}
-use Rattle.record.specs.Files.{Files}
+use Rattle.record.specs.Table.{limit, isFreeWord}
+use Rattle.record.specs.Files.{Files, deliveryOf}
 use Rattle.record.specs.Says.{saidAs, saidIn}
-use Rattle.record.proofs.TableLaws.{every, kinds, form-code}
+use Rattle.record.proofs.TableLaws.{every}
+use Rattle.record.proofs.PackedLaws.{form-digit, domain-digit}
 use Rattle.record.proofs.CutLaws.{record-past, record-long}
 use Rattle.record.proofs.FindingLaws.{inFile, fields-is, shape-is}
-use Rattle.keys.specs.Delivery.{deliveryOf, isFreeWord}
 use Rattle.keys.specs.Groups.{breakIn, overFiles}
 use Rattle.keys.proofs.Agree.{Agrees, isRead, keys-agree}
 use Rattle.topology.proofs.Agree.{topology-agree}
-use Rattle.judge.specs.Verdict.{groups, groupAt, judged, countIn, countsOf, verdictOf}
+use Rattle.judge.specs.Verdict.{groups, groupAt, judged, countsOf, verdictOf}
 use Rattle.judge.specs.Words.{inFree, SameButWords}
 
 -- THE TABLE: a test of the places of every kind, computed once, holds at each
@@ -48,58 +51,70 @@ guarded : (a b : Bool) → (not a || b) ≡ true → a ≡ true → b ≡ true
 guarded true b e h = e
 guarded false b e h = absurd (true-false (sym h))
 
-words-code : (x : Form) → eqb (codeOf x) 0 ≡ true → x ≡ Words
-words-code x e = sym (form-code x) ∙ ap formOf (eqb-true (codeOf x) 0 e) ∙ form-code Words
+words-digit : (x : Form) → eqb (formDigit x) 0 ≡ true → x ≡ Words
+words-digit x e = sym (form-digit x) ∙ ap formOf (eqb-true (formDigit x) 0 e) ∙ form-digit Words
 
--- a free field is of words, may be missing and has no partners
+any-digit : (x : Domain) → eqb (domainDigit x) 0 ≡ true → x ≡ Any
+any-digit x e = sym (domain-digit x) ∙ ap domainOf (eqb-true (domainDigit x) 0 e) ∙ domain-digit Any
+
+-- a free field is of words of any kind, may be missing and has no partners
 aloneTest : Kind → ℕ → Bool
-aloneTest k f = eqb (codeOf (formAt k f)) 0 && (not (mustAt k f) && (eqb (beforeAt k f) 0 && eqb (afterAt k f) 0))
+aloneTest k f =
+    eqb (formDigit (formAt k f)) 0 && (not (required (mustAt k f)) && (eqb (backAt k f) 0 && (eqb (aheadAt k f) 0 && eqb (domainDigit (domainAt k f)) 0)))
 
 record Alone (k : Kind) (f : ℕ) : Type 0 where
   form : formAt k f ≡ Words
-  must : mustAt k f ≡ false
-  before : beforeAt k f ≡ 0
-  after : afterAt k f ≡ 0
+  must : required (mustAt k f) ≡ false
+  back : backAt k f ≡ 0
+  ahead : aheadAt k f ≡ 0
+  domain : domainAt k f ≡ Any
 
 free-alone : (k : Kind) (f : ℕ) → f ≤ fieldsOf k → isFreeWord k f ≡ true → Alone k f
-unfolding each any firstIndex firstOf aloneTest colAt formAt mustAt beforeAt afterAt
+unfolding each any firstIndex firstOf aloneTest colAt formAt mustAt backAt aheadAt domainAt isFreeWord
 free-alone k f l h =
     let a = and-true _ _ (guarded (isFreeWord k f) (aloneTest k f) (placewise (λ j g. not (isFreeWord j g) || aloneTest j g) refl k f l) h) in
     let b = and-true _ _ (a .1) in
     let c = and-true _ _ (b .1) in
-    record { form = words-code (formAt k f) (a .0); must = not-true _ (b .0); before = eqb-true _ _ (c .0); after = eqb-true _ _ (c .1) }
+    let d = and-true _ _ (c .1) in
+    record {
+      form = words-digit (formAt k f) (a .0);
+      must = not-true _ (b .0);
+      back = eqb-true _ _ (c .0);
+      ahead = eqb-true _ _ (d .0);
+      domain = any-digit (domainAt k f) (d .1);
+    }
 
 -- what is read of a field that is read: its own text, and of those beside it these
 besideTest : Kind → ℕ → Bool
 besideTest k f =
-    (not (eqb (codeOf (formAt k f)) (codeOf Sign)) || isRead k (f + 1))
-    && ((not (eqb (codeOf (formAt k f)) (codeOf Size)) || isRead k (f - 1))
-    && not (any (λ j. not (isRead k (f - beforeAt k f + j))) (beforeAt k f + afterAt k f + 1)))
+    (not (eqb (formDigit (formAt k f)) (formDigit Sign)) || isRead k (f + 1))
+    && ((not (eqb (formDigit (formAt k f)) (formDigit Size)) || isRead k (f - 1))
+    && not (any (λ j. not (isRead k (f - backAt k f + j))) (backAt k f + aheadAt k f + 1)))
 
 record Beside (k : Kind) (f : ℕ) : Type 0 where
   next : formAt k f ≡ Sign → isRead k (f + 1) ≡ true
   last : formAt k f ≡ Size → isRead k (f - 1) ≡ true
-  partners : (j : ℕ) → j < beforeAt k f + afterAt k f + 1 → isRead k (f - beforeAt k f + j) ≡ true
+  partners : (j : ℕ) → j < backAt k f + aheadAt k f + 1 → isRead k (f - backAt k f + j) ≡ true
 
 beside : (k : Kind) (f : ℕ) → isRead k f ≡ true → Beside k f
-unfolding each any firstIndex firstOf besideTest colAt formAt mustAt beforeAt afterAt
+unfolding each any firstIndex firstOf besideTest colAt formAt mustAt backAt aheadAt isFreeWord
 beside k f r =
     let l = leb-true f (fieldsOf k) (and-true _ _ r .0) in
     let a = and-true _ _ (guarded (isRead k f) (besideTest k f) (placewise (λ j g. not (isRead j g) || besideTest j g) refl k f l) r) in
     let b = and-true _ _ (a .1) in
     record {
-      next = λ e. guarded _ _ (a .0) (eq-eqb _ _ (ap codeOf e));
-      last = λ e. guarded _ _ (b .0) (eq-eqb _ _ (ap codeOf e));
-      partners = λ j h. not-false _ (any-no (λ j. not (isRead k (f - beforeAt k f + j))) (beforeAt k f + afterAt k f + 1) (not-true _ (b .1)) h);
+      next = λ e. guarded _ _ (a .0) (eq-eqb _ _ (ap formDigit e));
+      last = λ e. guarded _ _ (b .0) (eq-eqb _ _ (ap formDigit e));
+      partners = λ j h. not-false _ (any-no (λ j. not (isRead k (f - backAt k f + j))) (backAt k f + aheadAt k f + 1) (not-true _ (b .1)) h);
     }
 
 -- no byte after a field is in a free field, nor are the last two
 after-free : (k : Kind) (f : ℕ) → f ≤ fieldsOf k → inFree k (offsetAt k f + widthAt k f) ≡ false
-unfolding each any firstIndex firstOf inFree offsetAt colAt widthAt
+unfolding each any firstIndex firstOf inFree offsetAt colAt widthAt isFreeWord
 after-free k f l = not-true _ (placewise (λ j g. not (inFree j (offsetAt j g + widthAt j g))) refl k f l)
 
 ends-free : (k : Kind) → (inFree k (lengthOf k - 2) ≡ false) × (inFree k (lengthOf k - 1) ≡ false)
-unfolding each any firstIndex firstOf inFree offsetAt colAt widthAt
+unfolding each any firstIndex firstOf inFree offsetAt colAt widthAt isFreeWord
 ends-free k = (not-true _ (every (λ j. not (inFree j (lengthOf j - 2))) refl k), not-true _ (every (λ j. not (inFree j (lengthOf j - 1))) refl k))
 
 -- nor is any of a field that is read
@@ -118,7 +133,7 @@ abbrev apartAt : Kind → ℕ → ℕ → Bool
 apartAt k f g = apart (offsetAt k f) (widthAt k f) (offsetAt k g) (widthAt k g)
 
 within-free : (k : Kind) (f q : ℕ) → isRead k f ≡ true → q < widthAt k f → inFree k (offsetAt k f + q) ≡ false
-unfolding each any firstIndex firstOf inFree offsetAt colAt widthAt apart
+unfolding each any firstIndex firstOf inFree offsetAt colAt widthAt isFreeWord apart
 within-free k f q r l =
     let m = leb-true f (fieldsOf k) (and-true _ _ r .0) in
     let t = not-true _ (guarded (isRead k f) (not (any (λ g. isFreeWord k g && not (apartAt k f g)) (fieldsOf k + 1)))
@@ -135,22 +150,18 @@ record SameRecord (k : Kind) (s z : List ℕ) : Type 0 where
   lawful-too : (f : ℕ) → isFreeWord k f ≡ true → breaks23 z k f ≡ false
 
 -- the field after it is read only of a sign, and the field before it only of a coordinate's number
-outside-same : (form : Form) (t n m : List ℕ) → (form ≡ Sign → n ≡ m) → outside form t n ≡ outside form t m
+outside-same : (form : Form) (d : Domain) (t n m : List ℕ) → (form ≡ Sign → n ≡ m) → outside form d t n ≡ outside form d t m
 unfolding outside
-outside-same Words t n m h = refl
-outside-same Code t n m h = refl
-outside-same Tipo t n m h = refl
-outside-same Sense t n m h = refl
-outside-same Sign t n m h = rw (h refl)
-outside-same Number t n m h = refl
-outside-same Size t n m h = refl
+outside-same Words d t n m h = refl
+outside-same Code d t n m h = refl
+outside-same Sign d t n m h = rw (h refl)
+outside-same Number d t n m h = refl
+outside-same Size d t n m h = refl
 
 said-same : (form : Form) (t b c : List ℕ) → (form ≡ Size → b ≡ c) → saidAs form t b ≡ saidAs form t c
 unfolding saidAs
 said-same Words t b c h = refl
 said-same Code t b c h = refl
-said-same Tipo t b c h = refl
-said-same Sense t b c h = refl
 said-same Sign t b c h = refl
 said-same Number t b c h = refl
 said-same Size t b c h = rw (h refl)
@@ -163,11 +174,11 @@ blank-once false = refl
 module _ (s : List ℕ) (k : Kind) (f : ℕ) (a : Alone k f) where
   free-blank : partnersBlank s k f ≡ (allOf Blank (textOf s k f) && true)
   unfolding partnersBlank row each
-  free-blank = let q : f - 0 + 0 ≡ f = omega arith in rw (a .before, a .after, q)
+  free-blank = let q : f - 0 + 0 ≡ f = omega arith in rw (a .back, a .ahead, q)
 
   free-twenties : breaks23 s k f ≡ false → twenties s k f ≡ breaks20 s k f ∷ breaks21 s k f ∷ false ∷ false ∷ false ∷ false ∷ []
-  unfolding breaks22 notNumber breaks24 missingIn breaks25 outside
-  free-twenties h = rw (h, a .form, a .must, free-blank, blank-once (allOf Blank (textOf s k f)), and-false)
+  unfolding breaks22 notNumber breaks24 missingIn breaks25 inDomain outside
+  free-twenties h = rw (h, a .form, a .domain, a .must, free-blank, blank-once (allOf Blank (textOf s k f)), and-false)
 
 -- the bytes of a field are the record's
 text-at : (s : List ℕ) (k : Kind) (f q : ℕ) → q < widthAt k f → getD (textOf s k f) q 0 ≡ getD s (offsetAt k f + q) 0
@@ -208,7 +219,7 @@ module _ (k : Kind) (s z : List ℕ) (x : SameRecord k s z) where
 
     same-partners : partnersBlank s k f ≡ partnersBlank z k f
     unfolding partnersBlank
-    same-partners = each-same _ _ _ _ _ (λ j l. ap (allOf Blank) (text-same (f - beforeAt k f + j) (beside k f r .partners j l)))
+    same-partners = each-same _ _ _ _ _ (λ j l. ap (allOf Blank) (text-same (f - backAt k f + j) (beside k f r .partners j l)))
 
     same-24 : breaks24 s k f ≡ breaks24 z k f
     unfolding breaks24
@@ -217,7 +228,7 @@ module _ (k : Kind) (s z : List ℕ) (x : SameRecord k s z) where
     same-25 : breaks25 s k f ≡ breaks25 z k f
     unfolding breaks25
     same-25 =
-        rw (same-22, same-23, text-same f r, outside-same (formAt k f) (textOf z k f) _ _ (λ e. text-same (f + 1) (beside k f r .next e)))
+        rw (same-22, same-23, text-same f r, outside-same (formAt k f) (domainAt k f) (textOf z k f) _ _ (λ e. text-same (f + 1) (beside k f r .next e)))
 
   twenties-same : (f : ℕ) → f ≤ fieldsOf k → twenties s k f ≡ twenties z k f
   twenties-same f l = go (isFreeWord k f) refl
@@ -275,11 +286,7 @@ module _ (files others : Files) (w : SameButWords files others) where
 
   counts-same : countsOf files ≡ countsOf others
   unfolding countsOf
-  counts-same = row-same _ _ 7 (λ n l. go (whichOf (n + 1)))
-    where
-      go : (x : Which) → countIn files x ≡ countIn others x
-      go NoFile = refl
-      go (File k) = count-same k
+  counts-same = ap (λ (count : Kind → ℕ). map count kinds) (fun-ext count-same)
 
   pub free-words : verdictOf files ≡ verdictOf others
   unfolding verdictOf

@@ -3,17 +3,18 @@
 use Prim.Native.Nat.{ℕ, _+_}
 use mathlib.Core.Bool.{Bool}
 use mathlib.Core.List.{[], _∷_}
-use mathlib.Core.Path.{_≡_}
-use Rattle.laws.specs.Row.{pick}
+use mathlib.Core.Path.{_≡_, refl}
+use Rattle.record.specs.Cut.{countOf}
+use Rattle.laws.specs.Row.{pick, row}
 use Rattle.record.specs.declared.kind.Kind.{Kind}
 use Rattle.record.specs.declared.kind.Which.{Which}
 use Rattle.record.specs.declared.reason.Finding.{Finding}
 use Rattle.record.specs.declared.reason.Finding.the-variants.{Fine}
-use Rattle.record.specs.Table.{whichOf}
+use Rattle.record.specs.Table.{whichOf, fileCount, onFile}
 use Rattle.record.specs.Files.{Files}
 use Rattle.record.specs.Breaks.{shapeFinding, fieldsFinding}
 use Rattle.record.proofs.TableLaws.{NoneOf, numbers, default-at}
-use Rattle.judge.specs.Verdict.{groups, groupAt, countIn}
+use Rattle.judge.specs.Verdict.{groups, groupAt, countsOf}
 
 -- a file's finding, of its shape or of its fields
 abbrev pub bytesIn : Bool → Files → Kind → Finding
@@ -21,11 +22,15 @@ bytesIn shape files k = pick shape (shapeFinding (files k) k) (fieldsFinding (fi
 
 -- the count of the file with the number n + 1
 unfoldable pub countNo : Files → ℕ → ℕ
-countNo files n = countIn files (whichOf (n + 1))
+countNo files n = onFile (λ k. countOf (files k) k) (whichOf (n + 1))
 
-pub count-turn : (files : Files) (n : ℕ) {w : Which} {r : ℕ} → w ≡ whichOf (n + 1) → r ≡ countIn files w → r ≡ countNo files n
+pub count-turn : (files : Files) (n : ℕ) {w : Which} {r : ℕ} → w ≡ whichOf (n + 1) → r ≡ onFile (λ k. countOf (files k) k) w → r ≡ countNo files n
 unfolding countNo
 count-turn files n e h = rw (← e) h
+
+pub counts-row : (files : Files) → row (countNo files) fileCount ≡ countsOf files
+unfolding countNo countsOf row whichOf onFile
+counts-row files = refl
 
 -- OF A TEN: the others have no reasons
 pub group-else : (files : Files) (t : ℕ) → NoneOf (numbers 1 groups) t → Fine ≡ groupAt files t

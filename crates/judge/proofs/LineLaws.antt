@@ -17,7 +17,7 @@ use Rattle.field.specs.Digits.{digits}
 use Rattle.record.specs.declared.kind.Which.{Which}
 use Rattle.record.specs.declared.reason.Break.{Break}
 use Rattle.record.specs.declared.reason.Finding.the-variants.{Fine, Broken}
-use Rattle.record.specs.Table.{whichOf}
+use Rattle.record.specs.Table.{whichOf, fileCount}
 use Rattle.record.specs.Files.{Files}
 use Rattle.record.specs.Breaks.{numberOf}
 use Rattle.keys.specs.Rules.{orFirst}
@@ -59,8 +59,8 @@ line-end whole at buf l h = take-suc-set buf at 10 l ∙ h
 
 -- COUNTS: i of seven are put
 pub record Counting (counts bytes : List ℕ) (at i : ℕ) : Type 0 where
-  pub few : i ≤ 7
-  pub seven : length counts ≡ 7
+  pub few : i ≤ fileCount
+  pub seven : length counts ≡ fileCount
   pub room : length bytes ≡ 45
   pub place : at ≡ 2 + 6 * i
   pub written : take at bytes ++ countWords (drop i counts) ≡ 79 ∷ 75 ∷ countWords counts
@@ -75,7 +75,7 @@ unfolding countWords
 no-count counts i h = rw (drop-of-length-le counts {i = i} h) refl
 
 module _ {counts bytes : List ℕ} {at i : ℕ} (h : Counting counts bytes at i) where
-  pub counting-more : (at' : ℕ) (bytes' : List ℕ) → i < 7 → length bytes' ≡ length bytes → at' ≡ at + 5 + 1
+  pub counting-more : (at' : ℕ) (bytes' : List ℕ) → i < fileCount → length bytes' ≡ length bytes → at' ≡ at + 5 + 1
       → take at' bytes' ≡ take at bytes ++ (32 ∷ digits 5 (getD counts i 0)) → Counting counts bytes' at' (i + 1)
   counting-more at' bytes' l n p e =
       record {
@@ -88,7 +88,7 @@ module _ {counts bytes : List ℕ} {at i : ℕ} (h : Counting counts bytes at i)
             (ap (λ (s : List ℕ). take at bytes ++ s) (sym (next-count counts i (omega (arith, h .seven)))) ∙ h .written) e;
       }
 
-  pub counting-end : 7 ≤ i → take 45 (set bytes at 10) ≡ 79 ∷ 75 ∷ countWords counts
+  pub counting-end : fileCount ≤ i → take 45 (set bytes at 10) ≡ 79 ∷ 75 ∷ countWords counts
   counting-end l =
       let p : at ≡ 44 = omega (arith, h .few, h .place) in
       ap (λ (n : ℕ). take (suc n) (set bytes at 10)) (sym p)
@@ -121,26 +121,26 @@ unfoldable pub bigAt : Files → ℕ → Bool
 bigAt files n = isBig files (whichOf n)
 
 pub record NoneBig (files : Files) (n : ℕ) : Type 0 where
-  pub within : n ≤ 8
+  pub within : n ≤ fileCount + 1
   pub past : firstIndex (bigAt files) n ≡ none
 
 pub big-start : (files : Files) → NoneBig files 0
 big-start files = record { within = omega arith; past = index-start _ }
 
 module _ {files : Files} {n : ℕ} (s : NoneBig files n) where
-  pub big-end : 7 < n → 0 ≡ bigOf files
+  pub big-end : fileCount < n → 0 ≡ bigOf files
   unfolding bigOf bigAt
-  big-end u = ap orFirst (sym (index-end (bigAt files) 8 refl (s .within) u (s .past)))
+  big-end u = ap orFirst (sym (index-end (bigAt files) (fileCount + 1) refl (s .within) u (s .past)))
 
   -- r says whether the file of the number n is big
-  module _ {w : Which} {r : Bool} (l : n ≤ 7) (e : w ≡ whichOf n) (h : r ≡ isBig files w) where
+  module _ {w : Which} {r : Bool} (l : n ≤ fileCount) (e : w ≡ whichOf n) (h : r ≡ isBig files w) where
     big-turn : r ≡ bigAt files n
     unfolding bigAt
     big-turn = rw (← e) h
 
     pub big-here : r ≡ true → n ≡ bigOf files
     unfolding bigOf bigAt
-    big-here y = ap orFirst (sym (index-here (bigAt files) 8 (s .past) (omega arith) (sym big-turn ∙ y)))
+    big-here y = ap orFirst (sym (index-here (bigAt files) (fileCount + 1) (s .past) (omega arith) (sym big-turn ∙ y)))
 
     pub big-more : r ≡ false → NoneBig files (n + 1)
     big-more y = record { within = omega arith; past = index-more _ (s .past) (sym big-turn ∙ y) }

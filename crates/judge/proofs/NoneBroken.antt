@@ -18,7 +18,7 @@ use Rattle.record.specs.declared.kind.Which.the-variants.{NoFile, File}
 use Rattle.record.specs.declared.reason.Break.{Break}
 use Rattle.record.specs.declared.reason.Finding.{Finding}
 use Rattle.record.specs.declared.reason.Finding.the-variants.{Fine}
-use Rattle.record.specs.Table.{fieldsOf, whichOf}
+use Rattle.record.specs.Table.{fieldsOf, whichOf, fileCount}
 use Rattle.record.specs.Cut.{countOf, recordOf}
 use Rattle.record.specs.Breaks.{findingOf, recordFinding, fieldsFinding}
 use Rattle.record.proofs.FindingLaws.{inFile, fields-is, record-turn}
@@ -36,7 +36,7 @@ fields-fine s k h =
 -- OVER THE FILES: each is fine
 pub over-fine : (g : Kind → Finding) → ((k : Kind) → g k ≡ Fine) → overFiles g ≡ Fine
 unfolding overFiles
-over-fine g h = ap findingOf (first-none _ 8 (λ n l. go (whichOf n)))
+over-fine g h = ap findingOf (first-none _ (fileCount + 1) (λ n l. go (whichOf n)))
   where
     go : (w : Which) → breakIn (atFile g w) ≡ none
     go NoFile = refl

@@ -5,21 +5,23 @@ use Prim.Native.Nat.{ℕ, zero, suc, _+_, _-_, _<_, _≤_}
 use mathlib.Core.Bool.{Bool, true, false, not, _&&_, _||_}
 use mathlib.Core.List.{[]}
 use mathlib.Core.Path.{_≡_, refl, sym, ap, ap₂, _∙_}
+use native.Mathlib.Decide.{ℕ-discrete}
 use native.Mathlib.Omega.{arith}
 use lib.Dec.{leb, eqb}
 use lib.ListN.{getD}
-use borrow.Author.Tests.{leb-true, eqb-true, eq-eqb}
+use borrow.Author.Tests.{leb-true, eqb-true, eq-eqb, ne-eqb}
 use Rattle.laws.specs.Find.{any, names}
-use Rattle.laws.specs.Row.{each}
+use Rattle.laws.specs.Row.{pick, each}
 use Rattle.laws.proofs.RowLaws.{and-true, then-false, and-last, same-test, picked, end, more, falses}
 use Rattle.record.specs.declared.kind.Kind.{Kind}
 use Rattle.record.specs.declared.kind.Kind.the-variants.{Catalogo, ObPun, ObTex, ObLin, Tramo, Vertice, Nodo}
-use Rattle.record.specs.Table.{fieldsOf, fileOf, keysOf}
+use Rattle.record.specs.Table.{Col, whole, cols, colAt, kinds, fieldsOf, fileOf, keysOf, targetOf}
 use Rattle.record.specs.Says.{Said, Table, isMissing, numberIn, placeIn}
-use Rattle.record.proofs.TableLaws.{each-getD, kinds, kind-at, every}
-use Rattle.keys.specs.declared.names.Target.{Target}
-use Rattle.keys.specs.declared.names.Target.the-variants.{Free, Nowhere, To}
-use Rattle.keys.specs.Delivery.{Delivery, ownLine, nameAt, vertexKey, keyOf, targets, targetOf}
+use Rattle.record.proofs.TableLaws.{each-getD, kind-at, every}
+use Rattle.record.specs.declared.kind.Target.{Target}
+use Rattle.record.specs.declared.kind.Target.the-variants.{Free, Nowhere, To}
+use Rattle.record.specs.Files.{Delivery}
+use Rattle.record.specs.Names.{nameAt, vertexKey, keyOf}
 use Rattle.keys.specs.Rules.{repeats, breaks30, dangles, danglesTo, breaks40, typedIn, mistyped, breaks41, keyTests}
 use Rattle.keys.specs.Findings.{keysBroken}
 use Rattle.topology.specs.Rules.{isAt, placed, nodeIn, hasVertex, highestIn, highest, meets, elsewhere, tramoLine, gap, breaks50, alone, breaks51, startElsewhere, breaks52, endElsewhere, breaks53, samePlace, placedBefore, breaks54, pointElsewhere, breaks55, nodeUsed, breaks56, objectIdle, breaks57, breaks59, fifties}
@@ -39,10 +41,13 @@ fits Free = true
 fits Nowhere = true
 fits (To k g) = leb g (fieldsOf k)
 
-abbrev lawful : Kind → Bool
-lawful k = leb 1 (fieldsOf k) && (leb (keysOf k) (fieldsOf k) && each fits (targets k))
+abbrev fitting : Col → Bool
+fitting c = fits (c .refers)
 
-lawful-all : (k : Kind) → (1 ≤ fieldsOf k) × (keysOf k ≤ fieldsOf k) × (each fits (targets k) ≡ true)
+abbrev lawful : Kind → Bool
+lawful k = leb 1 (fieldsOf k) && (leb (keysOf k) (fieldsOf k) && each fitting (cols k))
+
+lawful-all : (k : Kind) → (1 ≤ fieldsOf k) × (keysOf k ≤ fieldsOf k) × (each fitting (cols k) ≡ true)
 unfolding each
 lawful-all k =
     let w = and-true _ _ (every lawful refl k) in
@@ -50,8 +55,8 @@ lawful-all k =
     (leb-true _ _ (w .0), leb-true _ _ (v .0), v .1)
 
 target-fits : (k : Kind) (f : ℕ) → fits (targetOf k f) ≡ true
-unfolding targetOf
-target-fits k f = each-getD fits (targets k) Free refl (lawful-all k .2) f
+unfolding targetOf colAt
+target-fits k f = each-getD fitting (cols k) whole refl (lawful-all k .2) f
 
 -- a file has its number alone
 file-same : (j k : Kind) → eqb (fileOf j) (fileOf k) ≡ true → j ≡ k
@@ -81,28 +86,22 @@ module _ (d e : Delivery) (r : Rearranged d e) where
   names-there k key other same x = any-there k (λ j. eqb (key j) x) (λ j. eqb (other j) x) (λ j l. ap (λ (y : ℕ). eqb y x) (same j l))
 
   -- NAMES AND KEYS
-  own-there : (k : Kind) (i f : ℕ) → i < d k .count → ownLine k (e k) i f ≡ ownLine k (d k) (to k i) f
-  own-there Catalogo i f l = refl
-  own-there ObPun i f l = refl
-  own-there ObTex i f l = refl
-  own-there ObLin i f l = refl
-  own-there Tramo i f l = ap (λ (s : Said). eqb f 4 && isMissing s) (r .says Tramo i 4 l (omega arith))
-  own-there Vertice i f l = refl
-  own-there Nodo i f l = refl
-
   name-there : (k : Kind) (i f : ℕ) → i < d k .count → f ≤ fieldsOf k → nameAt k (e k) i f ≡ nameAt k (d k) (to k i) f
   unfolding nameAt
-  name-there k i f l b = rw (own-there k i f l, r .says k i 1 l (lawful-all k .0), r .says k i f l b)
+  name-there k i f l b = rw (r .says k i 1 l (lawful-all k .0), r .says k i f l b)
 
   key-there : (k : Kind) (i : ℕ) → i < d k .count → keyOf k (e k) i ≡ keyOf k (d k) (to k i)
   unfolding keyOf
-  key-there Catalogo i l = name-there Catalogo i 1 l (omega arith)
-  key-there ObPun i l = name-there ObPun i 1 l (omega arith)
-  key-there ObTex i l = name-there ObTex i 1 l (omega arith)
-  key-there ObLin i l = name-there ObLin i 1 l (omega arith)
-  key-there Tramo i l = name-there Tramo i 1 l (omega arith)
-  key-there Vertice i l = ap₂ vertexKey (name-there Vertice i 1 l (omega arith)) (ap numberIn (r .says Vertice i 2 l (omega arith)))
-  key-there Nodo i l = name-there Nodo i 1 l (omega arith)
+  key-there k i l = go (ℕ-discrete (keysOf k) 2)
+    where
+      name : nameAt k (e k) i 1 ≡ nameAt k (d k) (to k i) 1
+      name = name-there k i 1 l (lawful-all k .0)
+
+      go : Dec (keysOf k ≡ 2)
+          → pick (eqb (keysOf k) 2) (vertexKey (nameAt k (e k) i 1) (numberIn (e k .says i 2))) (nameAt k (e k) i 1)
+          ≡ pick (eqb (keysOf k) 2) (vertexKey (nameAt k (d k) (to k i) 1) (numberIn (d k .says (to k i) 2))) (nameAt k (d k) (to k i) 1)
+      go (yes q) = rw (eq-eqb (keysOf k) 2 q, name, r .says k i 2 l (omega (arith, lawful-all k .1)))
+      go (no q) = rw (ne-eqb (keysOf k) 2 q) name
 
   -- THE RULES of keys and references
   dangles-there : (t : Target) → fits t ≡ true → (x : ℕ) → danglesTo t e x ≡ danglesTo t d x

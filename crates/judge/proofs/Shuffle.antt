@@ -33,9 +33,9 @@ module _ (vs ws : Records) (sh : (k : Kind) → Shuffled (vs k) (ws k)) where
   shuffled-obeys o =
       record {
         few = λ k. rw (sh k .long) (o .few k);
-        fields = λ k i l.
+        fields = λ k i f u l m.
             let b : i < length (vs k) = rw (sh k .long) at l in
-            rw (moved-at k i b) (o .fields k (sh k .to i) (sh k .to-within i b));
+            rw (moved-at k i b) (o .fields k (sh k .to i) f u (sh k .to-within i b) m);
         keys = keys-rearranged (tablesOf vs) (tablesOf ws) tables-shuffled (o .keys);
         topology = topology-rearranged (tablesOf vs) (tablesOf ws) tables-shuffled (o .topology);
       }

@@ -14,9 +14,8 @@ use Rattle.laws.proofs.RowLaws.{picked}
 use Rattle.record.specs.declared.reason.Break.{Break}
 use Rattle.record.specs.declared.reason.Finding.{Finding}
 use Rattle.record.specs.declared.reason.Finding.the-variants.{Fine}
-use Rattle.record.specs.Files.{Files}
+use Rattle.record.specs.Files.{Files, Delivery, deliveryOf}
 use Rattle.record.specs.Breaks.{findingOf, fine}
-use Rattle.keys.specs.Delivery.{Delivery, deliveryOf}
 use Rattle.keys.specs.Rules.{keyTests, keyReasons}
 use Rattle.keys.specs.Groups.{breakIn}
 use Rattle.keys.specs.Findings.{keysIn, keysFinding}

@@ -13,7 +13,7 @@ use Rattle.record.specs.declared.kind.Kind.the-variants.{Catalogo, ObPun, ObTex
 use Rattle.record.specs.declared.reason.Finding.the-variants.{Fine}
 use Rattle.record.specs.Table.{whichOf}
 use Rattle.record.specs.Breaks.{findingOf}
-use Rattle.keys.specs.Delivery.{Delivery, deliveryOf}
+use Rattle.record.specs.Files.{Delivery, deliveryOf}
 use Rattle.keys.specs.Groups.{breakIn}
 use Rattle.keys.specs.Rules.{keyTests, keyReasons}
 use Rattle.keys.specs.Findings.{keysBroken, keysIn, keysFinding}
@@ -38,13 +38,17 @@ unfolding topologyFinding topologyIn topologyBroken
 topology-fine d h = over-fine _ (λ k. none-broken-fine (topologyTests d k) k (d k .count) (h k) (fiftyReasons d k) 5)
 
 module _ (vs : Records) (o : Obeys vs) where
+  -- no record is refused
+  writable : (k : Kind) (i : ℕ) → i < length (vs k) → valuesFinding k (valuesSay k (valuesAt vs k i)) ≡ Fine
+  writable k i l = values-fine k (valuesSay k (valuesAt vs k i)) .1 (λ f u b. o .fields k i f u l b)
+
   -- the files' tables say what the values say
   tables-made : Rearranged (tablesOf vs) (deliveryOf (madeOf vs))
   tables-made =
       record {
         count = λ k. rw (count-written k (vs k)) (let h = o .few k in omega arith);
         turn = λ k. stay (length (vs k));
-        says = λ k i f l b. said-written k (vs k) (o .fields k) i f l b;
+        says = λ k i f l b. said-written k (vs k) (writable k) i f l b;
       }
 
   -- and so break no rule that these keep
@@ -58,7 +62,7 @@ module _ (vs : Records) (o : Obeys vs) where
   unfolding groupAt
   group-fine zero = refl
   group-fine (suc zero) = over-fine _ (λ k. shape-written k (vs k) (o .few k))
-  group-fine (suc (suc zero)) = over-fine _ (λ k. fields-written k (vs k) (o .fields k))
+  group-fine (suc (suc zero)) = over-fine _ (λ k. fields-written k (vs k) (writable k))
   group-fine (suc (suc (suc zero))) = keys-fine _ keys-made 3
   group-fine (suc (suc (suc (suc zero)))) = keys-fine _ keys-made 4
   group-fine (suc (suc (suc (suc (suc zero))))) = topology-fine _ topology-made
@@ -69,8 +73,8 @@ module _ (vs : Records) (o : Obeys vs) where
   made-fine = ap findingOf (first-none _ (groups + 1) (λ t l. ap breakIn (group-fine t)))
 
   made-counts : countsOf (madeOf vs) ≡ lengthsOf vs
-  unfolding countsOf row whichOf
-  made-counts = simp count-written
+  unfolding countsOf
+  made-counts = ap (λ (count : Kind → ℕ). map count kinds) (fun-ext (λ k. count-written k (vs k)))
 
   -- THE WRITER'S PROMISE: the files made of values that obey the rules are accepted, with as many records as there are values
   pub writer-promise : verdictOf (madeOf vs) ≡ accepted vs
@@ -81,4 +85,4 @@ module _ (vs : Records) (o : Obeys vs) where
 pub writer-promise-any-order : (vs ws : Records) → Obeys vs → ((k : Kind) → Shuffled (vs k) (ws k)) → verdictOf (madeOf ws) ≡ accepted vs
 writer-promise-any-order vs ws o sh =
     let long : (k : Kind) → length (ws k) ≡ length (vs k) = λ k. sh k .long in
-    writer-promise ws (shuffled-obeys vs ws sh o) ∙ simp long
+    writer-promise ws (shuffled-obeys vs ws sh o) ∙ ap (λ (lengths : Kind → ℕ). record { finding = Fine; counts = map lengths kinds }) (fun-ext long)

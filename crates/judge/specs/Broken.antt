@@ -13,10 +13,9 @@ use Rattle.record.specs.declared.reason.Break.{Break}
 use Rattle.record.specs.declared.reason.Finding.{Finding}
 use Rattle.record.specs.declared.reason.Finding.the-variants.{Fine, Broken}
 use Rattle.record.specs.Table.{fileOf}
-use Rattle.record.specs.Files.{Files}
+use Rattle.record.specs.Files.{Files, deliveryOf}
 use Rattle.record.specs.Breaks.{numberOf, breakOf, tens, twentyReasons}
 use Rattle.record.specs.Claims.{broken}
-use Rattle.keys.specs.Delivery.{deliveryOf}
 use Rattle.keys.specs.Rules.{keyReasons}
 use Rattle.keys.specs.Findings.{keysBroken}
 use Rattle.topology.specs.Rules.{fiftyReasons}

@@ -1,6 +1,6 @@
 -- The verdict program's line (document 01, "The verdict program"): `OK` and the counts, `NO` and the break, or `BIG` and the file.
 -- Assumes nothing.
-use Prim.Native.Nat.{ℕ}
+use Prim.Native.Nat.{ℕ, _+_}
 use mathlib.Core.Bool.{Bool, true, false}
 use mathlib.Core.List.{List, [], _∷_, _++_}
 use lib.Dec.{ltb, eqb}
@@ -13,7 +13,7 @@ use Rattle.record.specs.declared.kind.Which.the-variants.{NoFile, File}
 use Rattle.record.specs.declared.reason.Break.{Break}
 use Rattle.record.specs.declared.reason.Finding.{Finding}
 use Rattle.record.specs.declared.reason.Finding.the-variants.{Fine, Broken}
-use Rattle.record.specs.Table.{whichOf}
+use Rattle.record.specs.Table.{whichOf, fileCount}
 use Rattle.record.specs.Files.{Files}
 use Rattle.record.specs.Breaks.{numberOf}
 use Rattle.keys.specs.Rules.{orFirst}
@@ -49,7 +49,7 @@ isBig files (File k) = ltb big (length (files k))
 
 -- the lowest number of such a file, and 0 where none is
 unfoldable pub bigOf : Files → ℕ
-bigOf files = orFirst (firstIndex (λ n. isBig files (whichOf n)) 8)
+bigOf files = orFirst (firstIndex (λ n. isBig files (whichOf n)) (fileCount + 1))
 
 -- `BIG` and the file in one digit
 abbrev pub bigLine : ℕ → List ℕ

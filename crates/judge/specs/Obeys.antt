@@ -2,19 +2,17 @@
 -- Assumes nothing.
 use Prim.Native.Nat.{ℕ, _≤_, _<_}
 use mathlib.Core.Bool.{Bool, true, false}
-use mathlib.Core.List.{List, [], _∷_, _++_}
+use mathlib.Core.List.{List, [], _∷_, _++_, map}
 use mathlib.Core.Path.{_≡_}
 use lib.ListN.{length, getD, replicate}
 use Rattle.record.specs.declared.kind.Kind.{Kind}
-use Rattle.record.specs.declared.kind.Kind.the-variants.{Catalogo, ObPun, ObTex, ObLin, Tramo, Vertice, Nodo}
 use Rattle.record.specs.declared.reason.Finding.the-variants.{Fine}
-use Rattle.record.specs.Table.{limit}
-use Rattle.record.specs.Files.{Files}
+use Rattle.record.specs.Table.{kinds, limit, mostFields, fieldsOf}
+use Rattle.record.specs.Files.{Files, Delivery}
 use Rattle.codec.specs.declared.values.Values.{Values}
 use Rattle.codec.specs.Values.{noValue, valuesSay}
 use Rattle.codec.specs.Writes.{encode}
-use Rattle.codec.specs.Refusals.{valuesFinding}
-use Rattle.keys.specs.Delivery.{Delivery}
+use Rattle.codec.specs.Refusals.{sixties}
 use Rattle.keys.specs.Findings.{keysBroken}
 use Rattle.topology.specs.Findings.{topologyBroken}
 use Rattle.judge.specs.declared.judge.Verdict.{Verdict}
@@ -24,7 +22,7 @@ abbrev pub Records : Type 0
 Records = Kind → List Values
 
 abbrev pub noValues : Values
-noValues = record { at = replicate 14 noValue }
+noValues = record { at = replicate mostFields noValue }
 
 -- record i's values, counted from 0
 abbrev pub valuesAt : Records → Kind → ℕ → Values
@@ -34,10 +32,10 @@ valuesAt vs k i = getD (vs k) i noValues
 abbrev pub tablesOf : Records → Delivery
 tablesOf vs k = record { count = length (vs k); says = λ i f. valuesSay k (valuesAt vs k i) f }
 
--- at most 16,384 records a file, no record refused in writing, and no rule of keys, references and topology broken
+-- at most 16,384 records a file, no test of 62 to 65 holds of a record's values, and no rule of keys, references and topology is broken
 pub record Obeys (vs : Records) : Type 0 where
   pub few : (k : Kind) → length (vs k) ≤ limit
-  pub fields : (k : Kind) (i : ℕ) → i < length (vs k) → valuesFinding k (valuesSay k (valuesAt vs k i)) ≡ Fine
+  pub fields : (k : Kind) (i f u : ℕ) → i < length (vs k) → f ≤ fieldsOf k → getD (sixties k (valuesSay k (valuesAt vs k i)) f) u false ≡ false
   pub keys : (k : Kind) (n i f : ℕ) → keysBroken (tablesOf vs) k n i f ≡ false
   pub topology : (k : Kind) (n i f : ℕ) → topologyBroken (tablesOf vs) k n i f ≡ false
 
@@ -52,9 +50,7 @@ madeOf vs k = writtenOf k (vs k)
 
 -- accepted, with the number of values of each file
 abbrev pub lengthsOf : Records → List ℕ
-lengthsOf vs =
-    length (vs Catalogo) ∷ length (vs ObPun) ∷ length (vs ObTex) ∷ length (vs ObLin)
-    ∷ length (vs Tramo) ∷ length (vs Vertice) ∷ length (vs Nodo) ∷ []
+lengthsOf vs = map (λ k. length (vs k)) kinds
 
 abbrev pub accepted : Records → Verdict
 accepted vs = record { finding = Fine; counts = lengthsOf vs }

@@ -1,19 +1,15 @@
 -- The verdict on a delivery: the seven counts and the first break, by the tens of the reason, then file, record, field and reason.
 -- Assumes nothing.
 use Prim.Native.Nat.{ℕ, _+_}
-use mathlib.Core.List.{List, [], _∷_}
+use mathlib.Core.List.{List, [], _∷_, map}
 use lib.ListN.{getD}
 use Rattle.laws.specs.Find.{firstOf}
-use Rattle.laws.specs.Row.{row}
-use Rattle.record.specs.declared.kind.Which.{Which}
-use Rattle.record.specs.declared.kind.Which.the-variants.{NoFile, File}
 use Rattle.record.specs.declared.reason.Finding.{Finding}
 use Rattle.record.specs.declared.reason.Finding.the-variants.{Fine}
-use Rattle.record.specs.Table.{whichOf}
-use Rattle.record.specs.Files.{Files}
+use Rattle.record.specs.Table.{kinds}
+use Rattle.record.specs.Files.{Files, Delivery, deliveryOf}
 use Rattle.record.specs.Cut.{countOf}
 use Rattle.record.specs.Breaks.{findingOf, shapeFinding, fieldsFinding}
-use Rattle.keys.specs.Delivery.{Delivery, deliveryOf}
 use Rattle.keys.specs.Groups.{breakIn, overFiles}
 use Rattle.keys.specs.Findings.{keysFinding}
 use Rattle.topology.specs.Findings.{topologyFinding}
@@ -41,12 +37,8 @@ unfoldable pub judged : Files → Finding
 judged files = findingOf (firstOf (λ t. breakIn (groupAt files t)) (groups + 1))
 
 -- a count is the number of whole records in that file's bytes
-abbrev pub countIn : Files → Which → ℕ
-countIn files NoFile = 0
-countIn files (File k) = countOf (files k) k
-
 unfoldable pub countsOf : Files → List ℕ
-countsOf files = row (λ n. countIn files (whichOf (n + 1))) 7
+countsOf files = map (λ k. countOf (files k) k) kinds
 
 -- THE VERDICT
 unfoldable pub verdictOf : Files → Verdict

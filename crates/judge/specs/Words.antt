@@ -7,11 +7,10 @@ use lib.Dec.{leb, ltb}
 use lib.ListN.{length, getD}
 use Rattle.laws.specs.Find.{any}
 use Rattle.record.specs.declared.kind.Kind.{Kind}
-use Rattle.record.specs.Table.{fieldsOf, widthAt, offsetAt}
+use Rattle.record.specs.Table.{fieldsOf, widthAt, offsetAt, isFreeWord}
 use Rattle.record.specs.Files.{Files}
 use Rattle.record.specs.Cut.{recordOf}
 use Rattle.record.specs.Rules.{breaks23}
-use Rattle.keys.specs.Delivery.{isFreeWord}
 
 -- byte q of a record stands in a free field
 unfoldable pub inFree : Kind → ℕ → Bool

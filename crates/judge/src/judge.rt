@@ -19,9 +19,11 @@ ghost use Rattle.laws.specs.Find.{firstOf};
 ghost use Rattle.laws.specs.Row.{pick};
 ghost use lib.Dec.{eqb};
 ghost use Rattle.record.specs.Files.{filesOf};
+ghost use Rattle.record.specs.Table.{onFile};
+ghost use Rattle.record.specs.Cut.{countOf};
 ghost use Rattle.record.specs.Breaks.{findingOf, shapeFinding, fieldsFinding};
 ghost use Rattle.keys.specs.Groups.{breakIn, atFile, overFiles};
-ghost use Rattle.judge.specs.Verdict.{groupAt, judged, countIn, countsOf, verdictOf};
+ghost use Rattle.judge.specs.Verdict.{groupAt, judged, countsOf, verdictOf};
 
 // The groups of reasons, by their tens: 10 to 50.
 pub const GROUPS: usize = 5;
@@ -116,7 +118,7 @@ fn first_break<'a>(files: [&'a [u8]; FILES]) -> Finding
 }
 
 fn count_of<'a>(which: Which, files: [&'a [u8]; FILES]) -> usize
-    ensures { λ r. ⌜ r ≡ countIn (filesOf (map now (files .entry))) which ⌝ }
+    ensures { λ r. ⌜ r ≡ onFile (λ k. countOf (filesOf (map now (files .entry)) k) k) which ⌝ }
 {
     match which {
         Which::NoFile => 0,

@@ -26,7 +26,7 @@ use Rattle.record.specs.declared.reason.Reason.the-variants.{LongFile10, SameKe
 use Rattle.record.specs.declared.reason.Break.{Break}
 use Rattle.record.specs.declared.reason.Finding.{Finding}
 use Rattle.record.specs.declared.reason.Finding.the-variants.{Fine, Broken}
-use Rattle.record.specs.Table.{keysOf, whichOf, targetOf, letterOf}
+use Rattle.record.specs.Table.{keysOf, whichOf, targetOf, letterOf, fileCount}
 use Rattle.record.specs.Breaks.{breakOf, findingOf, fine}
 use Rattle.record.specs.Says.{tableOf, letterIn}
 use Rattle.record.proofs.FindingLaws.{finding-more, finding-here, finding-end}
@@ -274,17 +274,17 @@ unfoldable fileAt : (Kind → Finding) → ℕ → Finding
 fileAt g n = atFile g (whichOf n)
 
 pub record Onward (g : Kind → Finding) (n : ℕ) : Type 0 where
-  past : Fines (fileAt g) 8 n
+  past : Fines (fileAt g) (fileCount + 1) n
 
 pub files-start : (g : Kind → Finding) → Onward g 0
 files-start g = record { past = fines-start _ _ }
 
 module _ {g : Kind → Finding} {n : ℕ} (s : Onward g n) where
-  pub files-end : 7 < n → Fine ≡ overFiles g
+  pub files-end : fileCount < n → Fine ≡ overFiles g
   unfolding overFiles fileAt
   files-end l = fines-end (s .past) l
 
-  module _ {w : Which} {v : Finding} {r : Bool} (l : n ≤ 7) (e : w ≡ whichOf n) (h : v ≡ atFile g w) (q : r ≡ fine v) where
+  module _ {w : Which} {v : Finding} {r : Bool} (l : n ≤ fileCount) (e : w ≡ whichOf n) (h : v ≡ atFile g w) (q : r ≡ fine v) where
     numbered : v ≡ fileAt g n
     unfolding fileAt
     numbered = h ∙ ap (atFile g) e

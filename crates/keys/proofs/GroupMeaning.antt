@@ -24,7 +24,7 @@ use Rattle.record.specs.declared.reason.Reason.the-variants.{LongFile10}
 use Rattle.record.specs.declared.reason.Break.{Break}
 use Rattle.record.specs.declared.reason.Finding.{Finding}
 use Rattle.record.specs.declared.reason.Finding.the-variants.{Fine, Broken}
-use Rattle.record.specs.Table.{fieldsOf, fileOf, whichOf}
+use Rattle.record.specs.Table.{fieldsOf, fileOf, whichOf, fileCount}
 use Rattle.record.specs.Breaks.{numberOf, findingOf}
 use Rattle.record.specs.Claims.{MeansBy}
 use Rattle.record.proofs.TableLaws.{sane}
@@ -153,12 +153,12 @@ fileIn : Which → ℕ
 fileIn NoFile = 0
 fileIn (File k) = fileOf k
 
-file-which-all : any (λ n. not (eqb (fileIn (whichOf n)) n)) 8 ≡ false
+file-which-all : any (λ n. not (eqb (fileIn (whichOf n)) n)) (fileCount + 1) ≡ false
 unfolding whichOf any firstIndex firstOf fileIn
 file-which-all = refl
 
-file-which : (n : ℕ) → n < 8 → fileIn (whichOf n) ≡ n
-file-which n l = eqb-true _ _ (not-false _ (any-no _ 8 file-which-all l))
+file-which : (n : ℕ) → n < fileCount + 1 → fileIn (whichOf n) ≡ n
+file-which n l = eqb-true _ _ (not-false _ (any-no _ (fileCount + 1) file-which-all l))
 
 pub break-none : (v : Finding) → breakIn v ≡ none → v ≡ Fine
 break-none Fine e = refl
@@ -182,9 +182,9 @@ module _ (g : Kind → Finding) where
 
   pub over-fine : overFiles g ≡ Fine → (k : Kind) → g k ≡ Fine
   unfolding overFiles
-  over-fine e k = break-none (g k) (sym (at-own k) ∙ none-at _ 8 (finding-none _ e) (omega (arith, sane k)))
+  over-fine e k = break-none (g k) (sym (at-own k) ∙ none-at _ (fileCount + 1) (finding-none _ e) (omega (arith, sane k)))
 
-  in-file : {b : Break} (n : ℕ) (w : Which) → whichOf n ≡ w → n < 8 → breakIn (atFile g w) ≡ some b → (k : Kind) × (fileOf k ≡ n) × (g k ≡ Broken b)
+  in-file : {b : Break} (n : ℕ) (w : Which) → whichOf n ≡ w → n < fileCount + 1 → breakIn (atFile g w) ≡ some b → (k : Kind) × (fileOf k ≡ n) × (g k ≡ Broken b)
   unfolding fileIn
   in-file n NoFile q l e = absurd (some-none (sym e))
   in-file n (File k) q l e = (k, sym (ap fileIn q) ∙ file-which n l, break-some (g k) e)
@@ -192,7 +192,7 @@ module _ (g : Kind → Finding) where
   pub over-broken : {b : Break} → overFiles g ≡ Broken b → (k : Kind) × (g k ≡ Broken b) × ((k' : Kind) → fileOf k' < fileOf k → g k' ≡ Fine)
   unfolding overFiles
   over-broken {b} e =
-      let r = some-at _ 8 (finding-some _ e) in
+      let r = some-at _ (fileCount + 1) (finding-some _ e) in
       let w = in-file (r .0) (whichOf (r .0)) refl (r .1) (r .2) in
       (w .0, w .2, λ k' l. break-none (g k') (sym (at-own k') ∙ none-at _ (r .0) (r .3) (omega (arith, w .1))))
 

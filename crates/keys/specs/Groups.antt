@@ -18,7 +18,7 @@ use Rattle.record.specs.declared.reason.Reason.the-variants.{LongFile10}
 use Rattle.record.specs.declared.reason.Break.{Break}
 use Rattle.record.specs.declared.reason.Finding.{Finding}
 use Rattle.record.specs.declared.reason.Finding.the-variants.{Fine, Broken}
-use Rattle.record.specs.Table.{fieldsOf, whichOf}
+use Rattle.record.specs.Table.{fieldsOf, whichOf, fileCount}
 use Rattle.record.specs.Breaks.{breakOf, findingOf}
 use Rattle.keys.specs.declared.group.Best.{Best}
 
@@ -73,4 +73,4 @@ atFile g (File k) = g k
 
 -- the first break of the files' findings
 unfoldable pub overFiles : (Kind → Finding) → Finding
-overFiles g = findingOf (firstOf (λ n. breakIn (atFile g (whichOf n))) 8)
+overFiles g = findingOf (firstOf (λ n. breakIn (atFile g (whichOf n))) (fileCount + 1))

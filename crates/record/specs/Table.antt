@@ -175,6 +175,10 @@ rowOf Nodo = record {
 abbrev pub kinds : List Kind
 kinds = Catalogo ∷ ObPun ∷ ObTex ∷ ObLin ∷ Tramo ∷ Vertice ∷ Nodo ∷ []
 
+-- so many files there are
+abbrev pub fileCount : ℕ
+fileCount = length kinds
+
 -- a file has at most so many records
 abbrev pub limit : ℕ
 limit = 16384
@@ -209,6 +213,11 @@ cols k = whole ∷ fields k
 -- the kind of a file's number
 unfoldable pub whichOf : ℕ → Which
 whichOf n = getD (NoFile ∷ map File kinds) n NoFile
+
+-- a number of a file, and 0 where there is none
+unfoldable pub onFile : (Kind → ℕ) → Which → ℕ
+onFile g NoFile = 0
+onFile g (File k) = g k
 
 -- a field's bytes with the byte after them; place 0 takes none
 abbrev pub roomIn : ℕ → ℕ

@@ -1,9 +1,10 @@
 -- `judge::judge::check_files` meets its contract. The loop's invariant: the files before number `n` give nothing.
 -- Assumes nothing.
-use Prim.Native.Nat.{_-_}
+use Prim.Native.Nat.{_+_, _-_}
 use mathlib.Core.List.{map}
 use denote.Ref.{now}
 use borrow.Author.Needs.{needs}
+use Rattle.record.specs.Table.{fileCount}
 use Rattle.record.specs.Files.{filesOf}
 use Rattle.keys.proofs.CellLaws.{Onward, files-start, files-more, files-here, files-end}
 use Rattle.judge.proofs.JudgeLaws.{bytesIn}
@@ -14,7 +15,7 @@ abbrev Inv-loop : tie.InvT-loop
 Inv-loop shape files n₀ n = Onward (bytesIn shape (filesOf (map now files))) n
 
 abbrev μ-loop : tie.MeasureT-loop
-μ-loop shape files n₀ n = 8 - n
+μ-loop shape files n₀ n = fileCount + 1 - n
 
 loop-holds : tie.Need-loop-holds Inv-loop μ-loop
 loop-holds c = files-start _

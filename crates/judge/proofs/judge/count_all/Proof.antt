@@ -2,25 +2,25 @@
 -- Assumes nothing.
 use Prim.Native.Nat.{_-_, _≤_}
 use mathlib.Core.List.{[], map}
-use mathlib.Core.Path.{_≡_, refl}
+use mathlib.Core.Path.{_≡_, refl, _∙_}
 use native.Mathlib.Omega.{arith}
 use lib.ListN.{length, take, length-set}
 use denote.Ref.{now}
 use borrow.Author.Needs.{needs}
+use Rattle.record.specs.Table.{fileCount}
 use Rattle.laws.specs.Row.{row}
 use Rattle.laws.proofs.RowLaws.{row-start, row-more, row-end}
 use Rattle.record.specs.Files.{filesOf}
-use Rattle.judge.specs.Verdict.{countsOf}
-use Rattle.judge.proofs.JudgeLaws.{countNo, count-turn}
+use Rattle.judge.proofs.JudgeLaws.{countNo, count-turn, counts-row}
 use Rattle.judge.proofs.judge.count_all.Statement.{statement}
 use Rattle.judge.proofs.judge.count_all.Tie as tie
 
 abbrev Inv-loop : tie.InvT-loop
 Inv-loop files counts₀ n₀ counts n =
-    (n ≤ 7) × (length counts ≡ 7) × (take n counts ≡ row (countNo (filesOf (map now files))) n)
+    (n ≤ fileCount) × (length counts ≡ fileCount) × (take n counts ≡ row (countNo (filesOf (map now files))) n)
 
 abbrev μ-loop : tie.MeasureT-loop
-μ-loop files counts₀ n₀ counts n = 7 - n
+μ-loop files counts₀ n₀ counts n = fileCount - n
 
 loop-holds : tie.Need-loop-holds Inv-loop μ-loop
 loop-holds c = (omega arith, refl, row-start _ [])
@@ -55,10 +55,9 @@ loop-again c =
     )
 
 returns : tie.Need-returns Inv-loop μ-loop
-unfolding countsOf countNo
 returns c =
     let l = c .before .loop in
-    row-end _ (l .counts) (l .inv .1) (l .inv .0) (c .loop-test .left) (l .inv .2)
+    row-end _ (l .counts) (l .inv .1) (l .inv .0) (c .loop-test .left) (l .inv .2) ∙ counts-row _
 
 pub count-all-spec : {M : Type 1} → statement M
 count-all-spec =

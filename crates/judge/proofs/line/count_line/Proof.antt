@@ -4,6 +4,7 @@ use Prim.Native.Nat.{_-_}
 use mathlib.Core.Path.{refl}
 use native.Mathlib.Omega.{arith}
 use borrow.Author.Needs.{needs}
+use Rattle.record.specs.Table.{fileCount}
 use Rattle.judge.proofs.LineLaws.{Counting, counting-more, counting-end}
 use Rattle.judge.proofs.line.count_line.Statement.{statement}
 use Rattle.judge.proofs.line.count_line.Tie as tie
@@ -12,7 +13,7 @@ abbrev Inv-loop : tie.InvT-loop
 Inv-loop counts bytes₀ at₀ i₀ bytes at i = Counting counts bytes at i
 
 abbrev μ-loop : tie.MeasureT-loop
-μ-loop counts bytes₀ at₀ i₀ bytes at i = 7 - i
+μ-loop counts bytes₀ at₀ i₀ bytes at i = fileCount - i
 
 array-write-bytes : tie.Need-array-write-bytes Inv-loop μ-loop
 array-write-bytes c = search needs

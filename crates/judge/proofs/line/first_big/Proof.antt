@@ -1,9 +1,10 @@
 -- `judge::line::first_big` meets its contract. The loop's invariant: no file before number `n` is big.
 -- Assumes nothing.
-use Prim.Native.Nat.{_-_}
+use Prim.Native.Nat.{_+_, _-_}
 use mathlib.Core.List.{map}
 use denote.Ref.{now}
 use borrow.Author.Needs.{needs}
+use Rattle.record.specs.Table.{fileCount}
 use Rattle.record.specs.Files.{filesOf}
 use Rattle.judge.proofs.LineLaws.{NoneBig, big-start, big-more, big-here, big-end}
 use Rattle.judge.proofs.line.first_big.Statement.{statement}
@@ -13,7 +14,7 @@ abbrev Inv-loop : tie.InvT-loop
 Inv-loop files n₀ n = NoneBig (filesOf (map now files)) n
 
 abbrev μ-loop : tie.MeasureT-loop
-μ-loop files n₀ n = 8 - n
+μ-loop files n₀ n = fileCount + 1 - n
 
 loop-holds : tie.Need-loop-holds Inv-loop μ-loop
 loop-holds c = big-start _

@@ -1,9 +1,10 @@
 -- `topology::group::check_topology` meets its contract. The loop's invariant: the files before number `n` give nothing.
 -- Assumes nothing.
-use Prim.Native.Nat.{_-_}
+use Prim.Native.Nat.{_+_, _-_}
 use mathlib.Core.List.{map}
 use denote.Ref.{now}
 use borrow.Author.Needs.{needs}
+use Rattle.record.specs.Table.{fileCount}
 use Rattle.record.specs.Files.{filesOf, deliveryOf}
 use Rattle.topology.specs.Findings.{topologyIn, topologyFinding}
 use Rattle.keys.proofs.CellLaws.{Onward, files-start, files-more, files-here, files-end}
@@ -14,7 +15,7 @@ abbrev Inv-loop : tie.InvT-loop
 Inv-loop files n₀ n = Onward (topologyIn (deliveryOf (filesOf (map now files)))) n
 
 abbrev μ-loop : tie.MeasureT-loop
-μ-loop files n₀ n = 8 - n
+μ-loop files n₀ n = fileCount + 1 - n
 
 loop-holds : tie.Need-loop-holds Inv-loop μ-loop
 loop-holds c = files-start _
