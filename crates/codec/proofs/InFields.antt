@@ -15,7 +15,7 @@ use Rattle.laws.proofs.FindLaws.{true-false}
 use Rattle.laws.proofs.RowLaws.{and-true, then-false, neither, picked}
 use Rattle.field.specs.declared.class.Class.the-variants.{Blank, Digit, Zero, Text}
 use Rattle.field.specs.Bytes.{allOf, blanks, lawfulText}
-use Rattle.field.specs.Digits.{digits, numberOf}
+use Rattle.field.specs.Digits.{digits, numberWritten}
 use Rattle.field.specs.Signs.{isNeg, signed, signByte}
 use Rattle.field.specs.Texts.{padded, trimmed, notGiven}
 use Rattle.field.proofs.DigitLaws.{digits-of-number, number-of-lt, zero-number, sign-back}
@@ -74,8 +74,8 @@ abs-signed true zero = refl
 abs-signed true (suc n) = refl
 
 digits-kept :
-    (t : List ℕ) (own : Said) → length t ≤ 10 → notNumber Number t ≡ false → numberBytes (length t) own ≡ digits (length t) (numberOf t)
-    → tooLarge (length t) own ≡ not (ltb (numberOf t) (10 ^ length t)) → badSaid (length t) own ≡ false → isMissing own ≡ false
+    (t : List ℕ) (own : Said) → length t ≤ 10 → notNumber Number t ≡ false → numberBytes (length t) own ≡ digits (length t) (numberWritten t)
+    → tooLarge (length t) own ≡ not (ltb (numberWritten t) (10 ^ length t)) → badSaid (length t) own ≡ false → isMissing own ≡ false
     → Kept t (pick (allOf Blank t) missing own) (numberBytes (length t) (pick (allOf Blank t) missing own))
 unfolding notNumber
 digits-kept t own l e written large bad gone = go (allOf Blank t) refl
@@ -86,7 +86,7 @@ digits-kept t own l e written large bad gone = go (allOf Blank t) refl
         let d : allOf Digit t ≡ true = not-false (allOf Digit t) (rw h at e) in
         record {
           same = written ∙ digits-of-number t l d;
-          small = large ∙ ap not (lt-ltb (numberOf t) (10 ^ length t) (number-of-lt t l d));
+          small = large ∙ ap not (lt-ltb (numberWritten t) (10 ^ length t) (number-of-lt t l d));
           good = bad;
           gone = gone ∙ sym h;
         }
@@ -99,10 +99,10 @@ unfolding saidAs bytesAs notText notNumber
 kept Words t b next w n e s = text-kept t (not-false (lawfulText t) e)
 kept Code t b next w n e s = text-kept t (not-false (lawfulText t) e)
 kept Sign t b next w n e s = absurd (s refl)
-kept Number t b next w n e s = digits-kept t (number (numberOf t)) (w refl) n refl refl refl refl
+kept Number t b next w n e s = digits-kept t (number (numberWritten t)) (w refl) n refl refl refl refl
 kept Size t b next w n e s =
-    let h = abs-signed (eqb (getD b 0 0) 45) (numberOf t) in
-    digits-kept t (coordinate (signed (eqb (getD b 0 0) 45) (numberOf t))) (w refl) n
+    let h = abs-signed (eqb (getD b 0 0) 45) (numberWritten t) in
+    digits-kept t (coordinate (signed (eqb (getD b 0 0) 45) (numberWritten t))) (w refl) n
     (ap (digits (length t)) h) (ap (λ (m : ℕ). not (ltb m (10 ^ length t))) h) refl refl
 
 -- what is missing as it is said is missing by its bytes; a coordinate is told at its sign
@@ -119,7 +119,7 @@ unfolding saidAs missingIn
 was-missing Words t b next s h = blank-missing (allOf Blank t) false (text (trimmed t)) refl h
 was-missing Code t b next s h = code-missing (allOf Blank t) (trimmed t) h
 was-missing Sign t b next s h = absurd (s refl)
-was-missing Number t b next s h = blank-missing (allOf Blank t) false (number (numberOf t)) refl h
+was-missing Number t b next s h = blank-missing (allOf Blank t) false (number (numberWritten t)) refl h
 was-missing Size t b next s h = absurd (true-false (sym h))
 
 -- nor is it outside where the bytes are not; only words have a domain that is read, and of their first byte
@@ -150,14 +150,14 @@ sign-byte z c e q = rw q (go (eqb c 45) refl e)
     go false h e = sym (eqb-true c 43 (sym (or-false (eqb c 43)) ∙ e))
 
 one-sign : (c : ℕ) (n : List ℕ) → length n ≤ 10 → allOf Digit n ≡ true → outside Sign PlusMinus (c ∷ []) n ≡ false
-    → padded 1 (signByte (signed (eqb c 45) (numberOf n)) ∷ []) ≡ c ∷ []
+    → padded 1 (signByte (signed (eqb c 45) (numberWritten n)) ∷ []) ≡ c ∷ []
 unfolding inDomain outside padded
 one-sign c n l d o =
     let p = neither (not (isSignByte c)) (eqb c 45 && allOf Zero n) o in
-    let zero-minus : eqb c 45 ≡ true → numberOf n ≡ 0 → ⊥ =
-    λ h z. true-false (sym (zero-number n l d ∙ eq-eqb (numberOf n) 0 z) ∙ then-false (eqb c 45) (allOf Zero n) (p .1) h) in
+    let zero-minus : eqb c 45 ≡ true → numberWritten n ≡ 0 → ⊥ =
+    λ h z. true-false (sym (zero-number n l d ∙ eq-eqb (numberWritten n) 0 z) ∙ then-false (eqb c 45) (allOf Zero n) (p .1) h) in
     ap (λ (x : ℕ). x ∷ [])
-    (sign-byte (signed (eqb c 45) (numberOf n)) c (not-false (isSignByte c) (p .0)) (sign-back (eqb c 45) (numberOf n) zero-minus .0))
+    (sign-byte (signed (eqb c 45) (numberWritten n)) c (not-false (isSignByte c) (p .0)) (sign-back (eqb c 45) (numberWritten n) zero-minus .0))
 
 one-byte : (t : List ℕ) → length t ≡ 1 → t ≡ getD t 0 0 ∷ []
 one-byte [] e = absurd (omega arith)
@@ -173,7 +173,7 @@ sign-kept t n own w l e q o = go (allOf Blank n) refl
     c : ℕ
     c = getD t 0 0
 
-    go : (b : Bool) → allOf Blank n ≡ b → signBytes 1 (pick b missing (coordinate (signed (eqb c 45) (numberOf n)))) ≡ t
+    go : (b : Bool) → allOf Blank n ≡ b → signBytes 1 (pick b missing (coordinate (signed (eqb c 45) (numberWritten n)))) ≡ t
     go true h = sym (blank-is t (q ∙ h) ∙ ap blanks w)
     go false h =
         let same = one-byte t w in
@@ -194,9 +194,9 @@ unfolding saidAs valueOf
 value-says Words t b l = text-says t l
 value-says Code t b l = text-says t l
 value-says Sign t b l = refl
-value-says Number t b l = picked (λ x. saidBy Number (valueOf x) ≡ x) (allOf Blank t) missing (number (numberOf t)) (λ _. refl) (λ h. refl)
+value-says Number t b l = picked (λ x. saidBy Number (valueOf x) ≡ x) (allOf Blank t) missing (number (numberWritten t)) (λ _. refl) (λ h. refl)
 value-says Size t b l =
-    picked (λ x. saidBy Size (valueOf x) ≡ x) (allOf Blank t) missing (coordinate (signed (eqb (getD b 0 0) 45) (numberOf t))) (λ _. refl) (λ h. refl)
+    picked (λ x. saidBy Size (valueOf x) ≡ x) (allOf Blank t) missing (coordinate (signed (eqb (getD b 0 0) 45) (numberWritten t))) (λ _. refl) (λ h. refl)
 
 -- WHAT THE NEXT FIELD SAYS is read by a sign alone
 pub heard :

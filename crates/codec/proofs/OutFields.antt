@@ -15,7 +15,7 @@ use Rattle.laws.proofs.FindLaws.{true-false}
 use Rattle.laws.proofs.RowLaws.{neither}
 use Rattle.field.specs.declared.class.Class.the-variants.{Blank, Digit, Zero, Text}
 use Rattle.field.specs.Bytes.{allOf, blanks, lawfulText}
-use Rattle.field.specs.Digits.{digits, numberOf}
+use Rattle.field.specs.Digits.{digits, numberWritten}
 use Rattle.field.specs.Signs.{signed, signByte}
 use Rattle.field.specs.Texts.{padded, trimmed, notGiven}
 use Rattle.field.proofs.DigitLaws.{length-digits, digits-are, digits-not-blank, number-of-digits, zero-number, sign-trip, sign-of-byte}
@@ -123,7 +123,7 @@ module _ (w n : ℕ) (wide : 0 < w) where
   digits-number : not (allOf Blank (digits w n)) && not (allOf Digit (digits w n)) ≡ false
   digits-number = rw (digits-not-blank w n wide, digits-are w n)
 
-  digits-back : w ≤ 10 → not (ltb n (10 ^ w)) ≡ false → numberOf (digits w n) ≡ n
+  digits-back : w ≤ 10 → not (ltb n (10 ^ w)) ≡ false → numberWritten (digits w n) ≡ n
   digits-back h e = number-of-digits w n h (ltb-true n (10 ^ w) (not-false _ e))
 
   digits-zero : w ≤ 10 → not (ltb n (10 ^ w)) ≡ false → allOf Zero (digits w n) ≡ eqb n 0
@@ -153,7 +153,7 @@ module _ {w : ℕ} (wide : 0 < w) where
   number-lawful (some n) = digits-number w n wide
 
   number-said : {own : Said} → Numeric own → w ≤ 10 → tooLarge w own ≡ false
-      → pick (allOf Blank (numberBytes w own)) missing (number (numberOf (numberBytes w own))) ≡ own
+      → pick (allOf Blank (numberBytes w own)) missing (number (numberWritten (numberBytes w own))) ≡ own
   number-said none h e = rw (blanks-are w)
   number-said (some n) h e = rw (digits-not-blank w n wide, digits-back w n wide h e)
 
@@ -202,7 +202,7 @@ module _ {w : ℕ} (wide : 0 < w) where
   sign-inside {m = m} (some z) l h e b = rw (good-first (sign-good w wide z)) (sign-within z _ (digits-zero m (natAbs z) l h e))
 
   place-said : {own : Said} → Placed own → w ≤ 10 → tooLarge w own ≡ false
-      → pick (allOf Blank (numberBytes w own)) missing (coordinate (signed (eqb (getD (signBytes 1 own) 0 0) 45) (numberOf (numberBytes w own)))) ≡ own
+      → pick (allOf Blank (numberBytes w own)) missing (coordinate (signed (eqb (getD (signBytes 1 own) 0 0) 45) (numberWritten (numberBytes w own)))) ≡ own
   place-said none h e = rw (blanks-are w)
   place-said (some z) h e =
       rw (digits-not-blank w (natAbs z) wide, good-first (sign-good 1 (omega arith) z), sign-of-byte z, digits-back w (natAbs z) wide h e, sign-trip z)

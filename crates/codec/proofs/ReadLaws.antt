@@ -12,7 +12,7 @@ use borrow.Author.Tests.{eq-eqb, ne-eqb, lt-ltb, le-ltb}
 use Rattle.laws.specs.Row.{pick}
 use Rattle.field.specs.declared.class.Class.the-variants.{Blank}
 use Rattle.field.specs.Bytes.{allOf}
-use Rattle.field.specs.Digits.{numberOf}
+use Rattle.field.specs.Digits.{numberWritten}
 use Rattle.field.specs.Signs.{signed}
 use Rattle.field.specs.Texts.{padded, trimmed}
 use Rattle.field.proofs.TextLaws.{trimmed-blank}
@@ -45,11 +45,11 @@ module _ (t b : List ℕ) where
   unfolding valueOf
   read-blank form h = ap valueOf (blank-says form h)
 
-  pub read-number : (form : Form) → form ≡ Number → allOf Blank t ≡ false → number (numberOf t) ≡ saidAs form t b
+  pub read-number : (form : Form) → form ≡ Number → allOf Blank t ≡ false → number (numberWritten t) ≡ saidAs form t b
   unfolding saidAs
   read-number form e h = rw (e, h)
 
-  pub read-size : (form : Form) → form ≡ Size → allOf Blank t ≡ false → coordinate (signed (eqb (getD b 0 0) 45) (numberOf t)) ≡ saidAs form t b
+  pub read-size : (form : Form) → form ≡ Size → allOf Blank t ≡ false → coordinate (signed (eqb (getD b 0 0) 45) (numberWritten t)) ≡ saidAs form t b
   unfolding saidAs
   read-size form e h = rw (e, h)
 

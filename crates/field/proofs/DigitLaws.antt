@@ -18,7 +18,7 @@ use Rattle.laws.proofs.RowLaws.{and-true, true-and, each-at, each-append}
 use Rattle.field.specs.declared.class.Class.{Class}
 use Rattle.field.specs.declared.class.Class.the-variants.{Blank, Digit, Zero}
 use Rattle.field.specs.Bytes.{inClass, allOf}
-use Rattle.field.specs.Digits.{digits, number, numberOf}
+use Rattle.field.specs.Digits.{digits, digitsNumber, numberWritten}
 use Rattle.field.specs.Signs.{isNeg, signed, signByte}
 
 -- CLASSES: what a class says of one byte,
@@ -70,13 +70,13 @@ digits-not-blank w n h =
     not-all Blank s 0 l (ne-eqb (getD s 0 0) 32 (λ e. omega arith))
 
 -- NUMBERS: only the first w bytes count
-number-front : (w : ℕ) (s t : List ℕ) → w ≤ length s → number w (s ++ t) ≡ number w s
-unfolding number
+number-front : (w : ℕ) (s t : List ℕ) → w ≤ length s → digitsNumber w (s ++ t) ≡ digitsNumber w s
+unfolding digitsNumber
 number-front zero s t h = refl
 number-front (suc w) s t h = rw (number-front w s t (omega arith), List·getD-append s t 0 w h)
 
-pub number-digits : (w n : ℕ) → n < 10 ^ w → number w (digits w n) ≡ n
-unfolding number digits
+pub number-digits : (w n : ℕ) → n < 10 ^ w → digitsNumber w (digits w n) ≡ n
+unfolding digitsNumber digits
 number-digits zero n h = omega arith
 number-digits (suc w) n h =
     let s = digits w (n / 10) in
@@ -85,48 +85,48 @@ number-digits (suc w) n h =
     rw (number-front w s ((48 + n % 10) ∷ []) (omega arith), number-digits w (n / 10) q, getD-at s (48 + n % 10) [] 0 w l) (omega arith)
 
 -- a field of up to ten bytes is read whole
-number-of : (s : List ℕ) → length s ≤ 10 → numberOf s ≡ number (length s) s
-unfolding numberOf
-number-of s h = ap (λ (w : ℕ). number w s) (min-eq-right h)
+number-of : (s : List ℕ) → length s ≤ 10 → numberWritten s ≡ digitsNumber (length s) s
+unfolding numberWritten
+number-of s h = ap (λ (w : ℕ). digitsNumber w s) (min-eq-right h)
 
-pub number-of-digits : (w n : ℕ) → w ≤ 10 → n < 10 ^ w → numberOf (digits w n) ≡ n
+pub number-of-digits : (w n : ℕ) → w ≤ 10 → n < 10 ^ w → numberWritten (digits w n) ≡ n
 number-of-digits w n h l =
-    number-of (digits w n) (omega (arith, length-digits w n)) ∙ ap (λ (k : ℕ). number k (digits w n)) (length-digits w n) ∙ number-digits w n l
+    number-of (digits w n) (omega (arith, length-digits w n)) ∙ ap (λ (k : ℕ). digitsNumber k (digits w n)) (length-digits w n) ∙ number-digits w n l
 
 -- of digits, the first w
 module _ (s : List ℕ) (d : allOf Digit s ≡ true) where
-  digits-number : (w : ℕ) → w ≤ length s → digits w (number w s) ≡ take w s
-  unfolding number digits
+  digits-number : (w : ℕ) → w ≤ length s → digits w (digitsNumber w s) ≡ take w s
+  unfolding digitsNumber digits
   digits-number zero h = refl
   digits-number (suc w) h =
       let r = digit-range s w d h in
-      let n = number w s in
+      let n = digitsNumber w s in
       let b = getD s w 0 in
       let p : (n * 10 + (b - 48)) / 10 ≡ n = omega arith in
       let q : 48 + (n * 10 + (b - 48)) % 10 ≡ b = omega arith in
       rw (p, q, digits-number w (omega arith), take-suc s w 0 h)
 
-  number-lt : (w : ℕ) → w ≤ length s → number w s < 10 ^ w
-  unfolding number
+  number-lt : (w : ℕ) → w ≤ length s → digitsNumber w s < 10 ^ w
+  unfolding digitsNumber
   number-lt zero h = omega arith
   number-lt (suc w) h = omega (arith, pow-suc 10 w, number-lt w (omega arith), digit-range s w d h)
 
-pub digits-of-number : (s : List ℕ) → length s ≤ 10 → allOf Digit s ≡ true → digits (length s) (numberOf s) ≡ s
+pub digits-of-number : (s : List ℕ) → length s ≤ 10 → allOf Digit s ≡ true → digits (length s) (numberWritten s) ≡ s
 digits-of-number s h d = ap (digits (length s)) (number-of s h) ∙ digits-number s d (length s) (omega arith) ∙ take-length s
 
-pub number-of-lt : (s : List ℕ) → length s ≤ 10 → allOf Digit s ≡ true → numberOf s < 10 ^ length s
+pub number-of-lt : (s : List ℕ) → length s ≤ 10 → allOf Digit s ≡ true → numberWritten s < 10 ^ length s
 number-of-lt s h d = rw (number-of s h) (number-lt s d (length s) (omega arith))
 
 -- bytes that count 0
-low-number : (s : List ℕ) → ((k : ℕ) → k < length s → getD s k 0 ≤ 48) → numberOf s ≡ 0
-unfolding numberOf number
+low-number : (s : List ℕ) → ((k : ℕ) → k < length s → getD s k 0 ≤ 48) → numberWritten s ≡ 0
+unfolding numberWritten digitsNumber
 low-number s low = go (min 10 (length s)) (min-le-right 10 (length s))
   where
-    go : (w : ℕ) → w ≤ length s → number w s ≡ 0
+    go : (w : ℕ) → w ≤ length s → digitsNumber w s ≡ 0
     go zero h = refl
     go (suc w) h = omega (arith, go w (omega arith), low w h)
 
-pub blank-number : (s : List ℕ) → allOf Blank s ≡ true → numberOf s ≡ 0
+pub blank-number : (s : List ℕ) → allOf Blank s ≡ true → numberWritten s ≡ 0
 blank-number s e = low-number s (λ k l. omega (arith, eqb-true (getD s k 0) 32 (all-at Blank s k e l)))
 
 zero-digits : (w : ℕ) → allOf Zero (digits w 0) ≡ true
@@ -134,15 +134,15 @@ unfolding digits allOf each
 zero-digits zero = refl
 zero-digits (suc w) = all-append Zero (digits w 0) (48 ∷ []) (zero-digits w) refl
 
-pub zero-number : (s : List ℕ) → length s ≤ 10 → allOf Digit s ≡ true → allOf Zero s ≡ eqb (numberOf s) 0
-zero-number s h d = go (ℕ-discrete (numberOf s) 0) (allOf Zero s) refl
+pub zero-number : (s : List ℕ) → length s ≤ 10 → allOf Digit s ≡ true → allOf Zero s ≡ eqb (numberWritten s) 0
+zero-number s h d = go (ℕ-discrete (numberWritten s) 0) (allOf Zero s) refl
   where
-    go : Dec (numberOf s ≡ 0) → (b : Bool) → allOf Zero s ≡ b → b ≡ eqb (numberOf s) 0
+    go : Dec (numberWritten s ≡ 0) → (b : Bool) → allOf Zero s ≡ b → b ≡ eqb (numberWritten s) 0
     go (yes z) b e =
         let t : digits (length s) 0 ≡ s = ap (digits (length s)) (sym z) ∙ digits-of-number s h d in
-        sym e ∙ ap (allOf Zero) (sym t) ∙ zero-digits (length s) ∙ sym (eq-eqb (numberOf s) 0 z)
+        sym e ∙ ap (allOf Zero) (sym t) ∙ zero-digits (length s) ∙ sym (eq-eqb (numberWritten s) 0 z)
     go (no z) true e = absurd (z (low-number s (λ k l. omega (arith, eqb-true (getD s k 0) 48 (all-at Zero s k e l)))))
-    go (no z) false e = sym (ne-eqb (numberOf s) 0 z)
+    go (no z) false e = sym (ne-eqb (numberWritten s) 0 z)
 
 -- SIGNS
 pub sign-back : (b : Bool) (n : ℕ) → (b ≡ true → n ≡ 0 → ⊥) → (isNeg (signed b n) ≡ b) × (natAbs (signed b n) ≡ n)

@@ -13,7 +13,7 @@ use lib.Seq.{drop-length, drop-cons, drop-set-lt, getD-set-same}
 use borrow.Author.Tests.{lt-ltb}
 use Rattle.laws.specs.Row.{row}
 use Rattle.laws.proofs.RowLaws.{row-at}
-use Rattle.field.specs.Digits.{digits, number, numberOf}
+use Rattle.field.specs.Digits.{digits, digitsNumber, numberWritten}
 
 -- POWERS
 -- the table of the powers of ten
@@ -40,13 +40,13 @@ digits-turn zero n p z h = absurd (not-suc-le-zero z)
 digits-turn (suc j) n p z h = rw (sub-one, drop-set-same p j (48 + n % 10) h) (sym (append-assoc (digits j (n / 10)) ((48 + n % 10) ∷ []) (drop (suc j) p)))
 
 -- READING: the invariant is `n ≡ number k part`, with the bound `n + 23 ≤ 23 * 10 ^ k`
-pub number-more : (k : ℕ) (s : List ℕ) → number (k + 1) s ≡ number k s * 10 + (getD s k 0 - 48)
-unfolding number
+pub number-more : (k : ℕ) (s : List ℕ) → digitsNumber (k + 1) s ≡ digitsNumber k s * 10 + (getD s k 0 - 48)
+unfolding digitsNumber
 number-more k s = rw add-one refl
 
 pub bound-more : (k n d : ℕ) → n + 23 ≤ 23 * 10 ^ k → d ≤ 207 → n * 10 + d + 23 ≤ 23 * 10 ^ (k + 1)
 bound-more k n d h g = rw add-one (omega (arith, pow-suc 10 k))
 
-pub number-end : {k : ℕ} (s : List ℕ) → k ≡ min 10 (length s) → number k s ≡ numberOf s
-unfolding numberOf
-number-end s e = ap (λ (k : ℕ). number k s) e
+pub number-end : {k : ℕ} (s : List ℕ) → k ≡ min 10 (length s) → digitsNumber k s ≡ numberWritten s
+unfolding numberWritten
+number-end s e = ap (λ (k : ℕ). digitsNumber k s) e

@@ -10,10 +10,10 @@ digits zero n = []
 digits (suc w) n = digits w (n / 10) ++ ((48 + n % 10) ∷ [])
 
 -- the number that the first w bytes of s write. It is meant of digits; of any other byte it is defined, and no more
-unfoldable pub number : ℕ → List ℕ → ℕ
-number zero s = 0
-number (suc w) s = number w s * 10 + (getD s w 0 - 48)
+unfoldable pub digitsNumber : ℕ → List ℕ → ℕ
+digitsNumber zero s = 0
+digitsNumber (suc w) s = digitsNumber w s * 10 + (getD s w 0 - 48)
 
 -- the number that a field writes. MIGRA's longest is ten digits, and no more of a field are read
-unfoldable pub numberOf : List ℕ → ℕ
-numberOf t = number (min 10 (length t)) t
+unfoldable pub numberWritten : List ℕ → ℕ
+numberWritten t = digitsNumber (min 10 (length t)) t

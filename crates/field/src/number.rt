@@ -6,7 +6,7 @@ ghost use Prim.Native.Nat.{ℕ, _-_, _^_, _<_};
 ghost use lib.Dec.{ltb, eqb};
 ghost use lib.IntN.{natAbs};
 ghost use lib.ListN.{length, getD};
-ghost use Rattle.field.specs.Digits.{digits, numberOf};
+ghost use Rattle.field.specs.Digits.{digits, numberWritten};
 ghost use Rattle.field.specs.Signs.{isNeg, signed, signByte};
 
 const POWERS: [u64; 20] = [
@@ -68,7 +68,7 @@ fn digits_read(n: usize) -> usize
 
 // The number that the part's bytes write.
 pub fn get_number(part: &[u8]) -> u64
-    ensures value { λ r. ⌜ r ≡ numberOf (now (part .entry)) ⌝ }
+    ensures value { λ r. ⌜ r ≡ numberWritten (now (part .entry)) ⌝ }
     ensures small { λ r. ⌜ r < 2 ^ 38 ⌝ }
 {
     let end = digits_read(part.len());
@@ -103,7 +103,7 @@ fn signed_of(minus: bool, n: u64) -> i64
 
 // The coordinate that a sign's byte and a number's bytes write.
 pub fn get_coordinate(sign: &[u8], part: &[u8]) -> i64
-    ensures { λ r. ⌜ r ≡ signed (eqb (getD (now (sign .entry)) 0 0) 45) (numberOf (now (part .entry))) ⌝ }
+    ensures { λ r. ⌜ r ≡ signed (eqb (getD (now (sign .entry)) 0 0) 45) (numberWritten (now (part .entry))) ⌝ }
 {
     signed_of(byte(sign, 0) == 45, get_number(part))
 }

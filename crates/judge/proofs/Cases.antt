@@ -23,7 +23,7 @@ use Rattle.record.specs.Names.{nameAt, keyOf}
 use Rattle.keys.specs.Rules.{repeats, breaks30, dangles, breaks40, typedIn, mistyped, breaks41, keyTests, keyReasons}
 use Rattle.keys.specs.Groups.{cellBreak, groupFinding, overFiles}
 use Rattle.keys.specs.Findings.{keysIn, keysFinding}
-use Rattle.topology.specs.Rules.{placed, nodeIn, highestIn, meets, gap, breaks50, alone, breaks51, startElsewhere, breaks52, endElsewhere, breaks53, samePlace, placedBefore, breaks54, pointElsewhere, breaks55, nodeUsed, breaks56, objectIdle, breaks57, breaks59, fifties, fiftyReasons}
+use Rattle.topology.specs.Rules.{placed, nodeIn, highestIn, meets, gap, breaks50, unpaired, breaks51, startElsewhere, breaks52, endElsewhere, breaks53, samePlace, placedBefore, breaks54, pointElsewhere, breaks55, nodeUsed, breaks56, objectIdle, breaks57, breaks59, fifties, fiftyReasons}
 use Rattle.topology.specs.Findings.{topologyIn, topologyFinding}
 use Rattle.judge.specs.Verdict.{groupAt, judged, countsOf, verdictOf}
 use Rattle.judge.specs.Cases.{ascii, Case, Outcome, outcome, table}
@@ -37,7 +37,7 @@ unfolding
     atPlace shapeBreaks recordBreaks fieldBreaksAt fieldBreaks shapeFinding fieldsFinding saidAs saidIn
     valueAt valuesSay valueOf joined refuses62 badText refuses63 blankAt partnersMissing refuses64 refuses65 valueBreaks valuesFinding answerIn
     nameAt keyOf targetOf repeats breaks30 dangles breaks40 typedIn mistyped breaks41 keyTests keyReasons cellBreak groupFinding overFiles keysIn keysFinding
-    placed nodeIn highestIn meets gap breaks50 alone breaks51 startElsewhere breaks52 endElsewhere breaks53 samePlace placedBefore breaks54
+    placed nodeIn highestIn meets gap breaks50 unpaired breaks51 startElsewhere breaks52 endElsewhere breaks53 samePlace placedBefore breaks54
     pointElsewhere breaks55 nodeUsed breaks56 objectIdle breaks57 breaks59 fifties fiftyReasons topologyIn topologyFinding
     groupAt judged countsOf verdictOf
 cases = refl

@@ -23,7 +23,7 @@ use Rattle.record.specs.declared.reason.Finding.{Finding}
 use Rattle.record.specs.declared.reason.Finding.the-variants.{Fine, Broken}
 use Rattle.record.specs.Table.{fileOf, whichOf, kinds}
 use Rattle.record.specs.Files.{Files, Delivery, deliveryOf}
-use Rattle.record.specs.Breaks.{numberOf, breakOf, findingOf, tens, twentyReasons, shapeFinding, fieldsFinding}
+use Rattle.record.specs.Breaks.{numberOf, breakOf, findingOf, tenReasons, twentyReasons, shapeFinding, fieldsFinding}
 use Rattle.record.specs.Claims.{broken, MeansBy}
 use Rattle.record.proofs.TableLaws.{kind-at}
 use Rattle.record.proofs.Meaning.{shape-means, fields-means, means-shown}
@@ -108,7 +108,7 @@ module _ (files : Files) where
   unfolding groupAt isBroken reasonOf keysFinding topologyFinding
   ten zero = ten-none 0 refl (λ n k i f e. rw e)
   ten (suc zero) =
-      ten-of 1 (λ k. broken (files k) k) (λ k. shapeFinding (files k) k) (λ k i f. tens)
+      ten-of 1 (λ k. broken (files k) k) (λ k. shapeFinding (files k) k) (λ k i f. tenReasons)
       refl (λ n k i f e. rw e) (λ n k i f e. rw e) (λ k. shape-means (files k) k) (λ k b e m. means-shown 1 (files k) k b m)
   ten (suc (suc zero)) =
       ten-of 2 (λ k. broken (files k) k) (λ k. fieldsFinding (files k) k) (λ k i f. twentyReasons)

@@ -24,7 +24,7 @@ use Rattle.record.specs.Files.{Delivery}
 use Rattle.record.specs.Names.{nameAt, vertexKey, keyOf}
 use Rattle.keys.specs.Rules.{repeats, breaks30, dangles, danglesTo, breaks40, typedIn, mistyped, breaks41, keyTests}
 use Rattle.keys.specs.Findings.{keysBroken}
-use Rattle.topology.specs.Rules.{isAt, placed, nodeIn, hasVertex, highestIn, highest, meets, elsewhere, tramoLine, gap, breaks50, alone, breaks51, startElsewhere, breaks52, endElsewhere, breaks53, samePlace, placedBefore, breaks54, pointElsewhere, breaks55, nodeUsed, breaks56, objectIdle, breaks57, breaks59, fifties}
+use Rattle.topology.specs.Rules.{isAt, placed, nodeIn, hasVertex, highestIn, highest, meets, elsewhere, tramoLine, gap, breaks50, unpaired, breaks51, startElsewhere, breaks52, endElsewhere, breaks53, samePlace, placedBefore, breaks54, pointElsewhere, breaks55, nodeUsed, breaks56, objectIdle, breaks57, breaks59, fifties}
 use Rattle.topology.specs.Findings.{topologyTests, topologyBroken}
 use Rattle.judge.proofs.NoneBroken.{NoTest, none-tests, tests-none}
 use Rattle.judge.proofs.Turns.{Turn, any-turn, earlier-turn, highest-turn}
@@ -173,8 +173,8 @@ module _ (d e : Delivery) (r : Rearranged d e) where
   unfolding gap
   gap-there i l = rw (vertex-there i l, has-there (keyOf Vertice (d Vertice) (to Vertice i) - 1))
 
-  alone-there : (i : ℕ) → i < d Vertice .count → alone (keyOf Vertice (e Vertice)) (e Vertice .count) i ≡ alone (keyOf Vertice (d Vertice)) (d Vertice .count) (to Vertice i)
-  unfolding alone
+  alone-there : (i : ℕ) → i < d Vertice .count → unpaired (keyOf Vertice (e Vertice)) (e Vertice .count) i ≡ unpaired (keyOf Vertice (d Vertice)) (d Vertice .count) (to Vertice i)
+  unfolding unpaired
   alone-there i l = rw (vertex-there i l, has-there (keyOf Vertice (d Vertice) (to Vertice i) + 1))
 
   -- of ends and nodes,
@@ -261,7 +261,7 @@ module _ (d e : Delivery) (r : Rearranged d e) where
     fifties-there k i f u l b =
         falses
         (more (told Vertice 2 (gap (keyOf Vertice (d Vertice)) (d Vertice .count)) _ gap-there k i f l (no 0 (omega arith)))
-        (more (told Vertice 2 (alone (keyOf Vertice (d Vertice)) (d Vertice .count)) _ alone-there k i f l (no 1 (omega arith)))
+        (more (told Vertice 2 (unpaired (keyOf Vertice (d Vertice)) (d Vertice .count)) _ alone-there k i f l (no 1 (omega arith)))
         (more (told Tramo 6 (startElsewhere (d Tramo) (d Vertice) (d Nodo)) _ start-there k i f l (no 2 (omega arith)))
         (more (told Tramo 7 (endElsewhere (d Tramo) (d Vertice) (d Nodo)) _ end-there k i f l (no 3 (omega arith)))
         (more (told Nodo 0 (λ j. false) _ none-54 k i f l (and-last (isAt Nodo 0 k f) false (λ _. refl)))

@@ -12,7 +12,7 @@ use borrow.Author.Tests.{eqb-true, eqb-false}
 use Rattle.laws.specs.Find.{any}
 use Rattle.laws.proofs.FindLaws.{any-at, any-no, any-false, any-true}
 use Rattle.laws.proofs.RowLaws.{same-test, picked}
-use Rattle.index.specs.Look.{lineOf}
+use Rattle.index.specs.Look.{keyLine}
 use Rattle.topology.specs.Rules.{highestIn}
 
 -- a rearrangement of the indices below n
@@ -38,22 +38,22 @@ stay n =
 
 module _ (key : ℕ → ℕ) (line : ℕ) where
   -- the line's keys are at most the highest,
-  highest-above : (n : ℕ) {j : ℕ} → j < n → lineOf (key j) ≡ line → key j ≤ highestIn key line n
+  highest-above : (n : ℕ) {j : ℕ} → j < n → keyLine (key j) ≡ line → key j ≤ highestIn key line n
   unfolding highestIn
   highest-above zero l e = absurd (not-suc-le-zero l)
   highest-above (suc n) {j} l e =
       ⊎-elim
-      (λ q. rw q (picked (λ m. key n ≤ m) (eqb (lineOf (key n)) line) _ _ (λ _. le-max-left (key n) _) (λ f. absurd (eqb-false _ _ f (rw q at e)))))
-      (λ h. picked (λ m. key j ≤ m) (eqb (lineOf (key n)) line) _ _ (λ _. le-trans (highest-above n h e) (le-max-right (key n) _)) (λ _. highest-above n h e))
+      (λ q. rw q (picked (λ m. key n ≤ m) (eqb (keyLine (key n)) line) _ _ (λ _. le-max-left (key n) _) (λ f. absurd (eqb-false _ _ f (rw q at e)))))
+      (λ h. picked (λ m. key j ≤ m) (eqb (keyLine (key n)) line) _ _ (λ _. le-trans (highest-above n h e) (le-max-right (key n) _)) (λ _. highest-above n h e))
       (eq-or-lt-of-le (le-of-suc-le-suc l))
 
   -- and this is at most what they are at most
-  highest-below : (n b : ℕ) → ((j : ℕ) → j < n → lineOf (key j) ≡ line → key j ≤ b) → highestIn key line n ≤ b
+  highest-below : (n b : ℕ) → ((j : ℕ) → j < n → keyLine (key j) ≡ line → key j ≤ b) → highestIn key line n ≤ b
   unfolding highestIn
   highest-below zero b h = omega arith
   highest-below (suc n) b h =
       let rest = highest-below n b (λ j l. h j (omega arith)) in
-      picked (λ m. m ≤ b) (eqb (lineOf (key n)) line) _ _ (λ e. max-le (h n (omega arith) (eqb-true _ _ e)) rest) (λ _. rest)
+      picked (λ m. m ≤ b) (eqb (keyLine (key n)) line) _ _ (λ e. max-le (h n (omega arith) (eqb-true _ _ e)) rest) (λ _. rest)
 
 module _ {n : ℕ} (t : Turn n) where
   pub any-turn : (p q : ℕ → Bool) → ((j : ℕ) → j < n → q j ≡ p (t .to j)) → any q n ≡ any p n
@@ -85,9 +85,9 @@ module _ {n : ℕ} (t : Turn n) where
   pub highest-turn : (key other : ℕ → ℕ) → ((j : ℕ) → j < n → other j ≡ key (t .to j)) → (line : ℕ) → highestIn other line n ≡ highestIn key line n
   highest-turn key other same line =
       le-antisymm
-      (highest-below other line n _ (λ j l e. rw (same j l) (highest-above key line n (t .to-within j l) (ap lineOf (sym (same j l)) ∙ e))))
+      (highest-below other line n _ (λ j l e. rw (same j l) (highest-above key line n (t .to-within j l) (ap keyLine (sym (same j l)) ∙ e))))
       (highest-below key line n _
       (λ j l e.
       let b = t .from-within j l in
       let q : other (t .from j) ≡ key j = same (t .from j) b ∙ ap key (t .to-from j l) in
-      rw (← q) (highest-above other line n b (ap lineOf q ∙ e))))
+      rw (← q) (highest-above other line n b (ap keyLine q ∙ e))))

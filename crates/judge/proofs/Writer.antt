@@ -2,18 +2,19 @@
 -- Assumes nothing.
 use Prim.Native.Nat.{ℕ, zero, suc, _+_}
 use mathlib.Core.Bool.{false}
-use mathlib.Core.List.{List, [], _∷_}
-use mathlib.Core.Path.{_≡_, refl, ap, _∙_}
+use mathlib.Core.List.{map}
+use mathlib.Core.Path.{_≡_, refl, ap, fun-ext, _∙_}
 use native.Mathlib.Omega.{arith}
 use lib.ListN.{length}
-use Rattle.laws.specs.Row.{row}
 use Rattle.laws.proofs.FindLaws.{first-none}
 use Rattle.record.specs.declared.kind.Kind.{Kind}
-use Rattle.record.specs.declared.kind.Kind.the-variants.{Catalogo, ObPun, ObTex, ObLin, Tramo, Vertice, Nodo}
 use Rattle.record.specs.declared.reason.Finding.the-variants.{Fine}
-use Rattle.record.specs.Table.{whichOf}
+use Rattle.record.specs.Table.{kinds}
 use Rattle.record.specs.Breaks.{findingOf}
 use Rattle.record.specs.Files.{Delivery, deliveryOf}
+use Rattle.codec.specs.Values.{valuesSay}
+use Rattle.codec.specs.Refusals.{valuesFinding}
+use Rattle.codec.proofs.AllFalse.{values-fine}
 use Rattle.keys.specs.Groups.{breakIn}
 use Rattle.keys.specs.Rules.{keyTests, keyReasons}
 use Rattle.keys.specs.Findings.{keysBroken, keysIn, keysFinding}
@@ -21,7 +22,7 @@ use Rattle.topology.specs.Rules.{fiftyReasons}
 use Rattle.topology.specs.Findings.{topologyTests, topologyBroken, topologyIn, topologyFinding}
 use Rattle.judge.specs.declared.judge.Verdict.{Verdict}
 use Rattle.judge.specs.Verdict.{groups, groupAt, judged, countsOf, verdictOf}
-use Rattle.judge.specs.Obeys.{Records, tablesOf, Obeys, madeOf, Shuffled, lengthsOf, accepted}
+use Rattle.judge.specs.Obeys.{Records, valuesAt, tablesOf, Obeys, madeOf, Shuffled, lengthsOf, accepted}
 use Rattle.judge.proofs.NoneBroken.{over-fine, none-broken-fine}
 use Rattle.judge.proofs.Made.{count-written, shape-written, fields-written, said-written}
 use Rattle.judge.proofs.Turns.{stay}

@@ -14,7 +14,7 @@ use Rattle.record.specs.declared.reason.Finding.{Finding}
 use Rattle.record.specs.declared.reason.Finding.the-variants.{Fine, Broken}
 use Rattle.record.specs.Table.{fileOf}
 use Rattle.record.specs.Files.{Files, deliveryOf}
-use Rattle.record.specs.Breaks.{numberOf, breakOf, tens, twentyReasons}
+use Rattle.record.specs.Breaks.{numberOf, breakOf, tenReasons, twentyReasons}
 use Rattle.record.specs.Claims.{broken}
 use Rattle.keys.specs.Rules.{keyReasons}
 use Rattle.keys.specs.Findings.{keysBroken}
@@ -41,7 +41,7 @@ reasonOf files n k i f =
     getD
     (getD
     ([]
-    ∷ tens
+    ∷ tenReasons
     ∷ twentyReasons
     ∷ keyReasons 3 (deliveryOf files) k (i - 1) f
     ∷ keyReasons 4 (deliveryOf files) k (i - 1) f

@@ -31,41 +31,41 @@ ascii (then c s) = code c ∷ ascii s
 
 -- a record of the kind from its fields' texts, in order: each is filled up with blanks, and those left out at the end are blank;
 -- bars and line end after them
-abbrev pub line : Kind → List String → List ℕ
-line k texts = joined (row (λ i. padded (widthAt k (i + 1)) (ascii (getD texts i ""))) (fieldsOf k))
+abbrev pub recordOfTexts : Kind → List String → List ℕ
+recordOfTexts k texts = joined (row (λ i. padded (widthAt k (i + 1)) (ascii (getD texts i ""))) (fieldsOf k))
 
 -- RECORDS of S: the codes; linear object 1, by its name; tramo 1 of it, by code and end node, from node 1, the line blank; a vertex of
 -- line 1, by order and X, and a node, by id, X's sign, X and Y
 abbrev pub codes : List ℕ
-codes = line Catalogo ("0100000" ∷ "L" ∷ []) ++ line Catalogo ("0100001" ∷ "T" ∷ [])
+codes = recordOfTexts Catalogo ("0100000" ∷ "L" ∷ []) ++ recordOfTexts Catalogo ("0100001" ∷ "T" ∷ [])
 
-abbrev pub object : String → List ℕ
-object name = line ObLin ("0000000001" ∷ "" ∷ "0100000" ∷ name ∷ [])
+abbrev pub objectRecord : String → List ℕ
+objectRecord name = recordOfTexts ObLin ("0000000001" ∷ "" ∷ "0100000" ∷ name ∷ [])
 
-abbrev pub tramo : String → String → List ℕ
-tramo coded end = line Tramo ("0000000001" ∷ "0000000001" ∷ "" ∷ "" ∷ coded ∷ "0000000001" ∷ end ∷ [])
+abbrev pub tramoRecord : String → String → List ℕ
+tramoRecord coded end = recordOfTexts Tramo ("0000000001" ∷ "0000000001" ∷ "" ∷ "" ∷ coded ∷ "0000000001" ∷ end ∷ [])
 
-abbrev pub vertex : String → String → List ℕ
-vertex order x = line Vertice ("0000000001" ∷ order ∷ "+" ∷ x ∷ "+" ∷ "0000000200" ∷ [])
+abbrev pub vertexRecord : String → String → List ℕ
+vertexRecord order x = recordOfTexts Vertice ("0000000001" ∷ order ∷ "+" ∷ x ∷ "+" ∷ "0000000200" ∷ [])
 
-abbrev pub node : String → String → String → String → List ℕ
-node id sign x y = line Nodo (id ∷ "" ∷ sign ∷ x ∷ "+" ∷ y ∷ [])
+abbrev pub nodeRecord : String → String → String → String → List ℕ
+nodeRecord id sign x y = recordOfTexts Nodo (id ∷ "" ∷ sign ∷ x ∷ "+" ∷ y ∷ [])
 
 abbrev pub node1 : List ℕ
-node1 = node "0000000001" "+" "000000100" "0000000200"
+node1 = nodeRecord "0000000001" "+" "000000100" "0000000200"
 
 abbrev pub node2 : List ℕ
-node2 = node "0000000002" "+" "000000140" "0000000200"
+node2 = nodeRecord "0000000002" "+" "000000140" "0000000200"
 
 -- THE SMALL DELIVERY
 abbrev pub objects : List ℕ
-objects = object ""
+objects = objectRecord ""
 
 abbrev pub tramos : List ℕ
-tramos = tramo "0100001" "0000000002"
+tramos = tramoRecord "0100001" "0000000002"
 
 abbrev pub vertices : List ℕ
-vertices = vertex "00001" "000000100" ++ vertex "00002" "000000140"
+vertices = vertexRecord "00001" "000000100" ++ vertexRecord "00002" "000000140"
 
 -- S with other files 4 to 7
 abbrev pub delivery : List ℕ → List ℕ → List ℕ → List ℕ → Files
@@ -117,27 +117,27 @@ table =
     -- 2: S
     ∷ (judging S, OK (2 ∷ 0 ∷ 0 ∷ 1 ∷ 1 ∷ 2 ∷ 2 ∷ []))
     -- 3: node 2 at X 141
-    ∷ (judging (delivery objects tramos vertices (node1 ++ node "0000000002" "+" "000000141" "0000000200")), NO 53 5 1 7)
+    ∷ (judging (delivery objects tramos vertices (node1 ++ nodeRecord "0000000002" "+" "000000141" "0000000200")), NO 53 5 1 7)
     -- 4: orders 1 and 3
-    ∷ (judging (delivery objects tramos (vertex "00001" "000000100" ++ vertex "00003" "000000140") (node1 ++ node2)), NO 51 6 1 2)
+    ∷ (judging (delivery objects tramos (vertexRecord "00001" "000000100" ++ vertexRecord "00003" "000000140") (node1 ++ node2)), NO 51 6 1 2)
     -- 5: NODO of one whole record and one byte
     ∷ (judging (delivery objects tramos vertices (node1 ++ ascii "0")), NO 11 7 2 0)
     -- 6: node 1 with X - and zeros
-    ∷ (judging (delivery objects tramos vertices (node "0000000001" "-" "000000000" "0000000200" ++ node2)), NO 25 7 1 3)
+    ∷ (judging (delivery objects tramos vertices (nodeRecord "0000000001" "-" "000000000" "0000000200" ++ node2)), NO 25 7 1 3)
     -- 7: node 1 with an X of seven blanks and 11
-    ∷ (judging (delivery objects tramos vertices (node "0000000001" "+" "       11" "0000000200" ++ node2)), NO 22 7 1 4)
+    ∷ (judging (delivery objects tramos vertices (nodeRecord "0000000001" "+" "       11" "0000000200" ++ node2)), NO 22 7 1 4)
     -- 8: node 2's id changed to 1
-    ∷ (judging (delivery objects tramos vertices (node1 ++ node "0000000001" "+" "000000140" "0000000200")), NO 30 7 2 1)
+    ∷ (judging (delivery objects tramos vertices (node1 ++ nodeRecord "0000000001" "+" "000000140" "0000000200")), NO 30 7 2 1)
     -- 9: tramo ends at node 3
-    ∷ (judging (delivery objects (tramo "0100001" "0000000003") vertices (node1 ++ node2)), NO 40 5 1 7)
+    ∷ (judging (delivery objects (tramoRecord "0100001" "0000000003") vertices (node1 ++ node2)), NO 40 5 1 7)
     -- 10: tramo with code 0100000
-    ∷ (judging (delivery objects (tramo "0100000" "0000000002") vertices (node1 ++ node2)), NO 41 5 1 5)
+    ∷ (judging (delivery objects (tramoRecord "0100000" "0000000002") vertices (node1 ++ node2)), NO 41 5 1 5)
     -- 11: third node, id 3, at node 1's place
-    ∷ (judging (delivery objects tramos vertices (node1 ++ node2 ++ node "0000000003" "+" "000000100" "0000000200")), NO 54 7 3 0)
+    ∷ (judging (delivery objects tramos vertices (node1 ++ node2 ++ nodeRecord "0000000003" "+" "000000100" "0000000200")), NO 54 7 3 0)
     -- 12: third node at (0, 0)
-    ∷ (judging (delivery objects tramos vertices (node1 ++ node2 ++ node "0000000003" "+" "000000000" "0000000000")), NO 56 7 3 0)
+    ∷ (judging (delivery objects tramos vertices (node1 ++ node2 ++ nodeRecord "0000000003" "+" "000000000" "0000000000")), NO 56 7 3 0)
     -- 13: a bar in the object's name
-    ∷ (judging (delivery (object "CALLE|MAYOR") tramos vertices (node1 ++ node2)), OK (2 ∷ 0 ∷ 0 ∷ 1 ∷ 1 ∷ 2 ∷ 2 ∷ []))
+    ∷ (judging (delivery (objectRecord "CALLE|MAYOR") tramos vertices (node1 ++ node2)), OK (2 ∷ 0 ∷ 0 ∷ 1 ∷ 1 ∷ 2 ∷ 2 ∷ []))
     -- 14: writing a node
     ∷ (writing (nodeAt 999999999), done)
     ∷ (writing (nodeAt 1000000000), refused 62 4)

@@ -36,7 +36,8 @@ use Rattle.record.specs.declared.kind.Target.the-variants.{Free, Nowhere, To}
 use Rattle.record.specs.Files.{deliveryOf}
 use Rattle.record.specs.Names.{nameAt, keyOf}
 use Rattle.keys.specs.Rules.{orFirst, firstWith, repeats, breaks30, dangles, breaks40, mistyped, refersToCatalogue, breaks41, keyTests, keyReasons}
-use Rattle.keys.specs.Groups.{Tests, Reasons, cellBreak, cellsOf, groupFinding, betterOf, noBest, bestOf, breakIn, atFile, overFiles}
+use Rattle.keys.specs.Groups.{Tests, Reasons, cellBreak, cellsOf, groupFinding, breakIn, atFile, overFiles}
+use Rattle.keys.specs.machinery.Cells.{betterOf, noBest, bestOf}
 use Rattle.keys.proofs.FoundLaws.{Passed, found-more}
 
 -- of n records and m cells the test holds nowhere

@@ -7,9 +7,6 @@ use mathlib.Core.Option.{Option, none, some}
 use lib.Dec.{leb}
 use lib.ListN.{getD}
 use Rattle.laws.specs.Find.{firstOf, hit}
-use Rattle.laws.specs.Row.{pick}
-use Rattle.index.specs.declared.Found.{Found}
-use Rattle.index.specs.declared.Found.the-variants.{At, Nothing}
 use Rattle.record.specs.declared.kind.Kind.{Kind}
 use Rattle.record.specs.declared.kind.Which.{Which}
 use Rattle.record.specs.declared.kind.Which.the-variants.{NoFile, File}
@@ -20,7 +17,6 @@ use Rattle.record.specs.declared.reason.Finding.{Finding}
 use Rattle.record.specs.declared.reason.Finding.the-variants.{Fine, Broken}
 use Rattle.record.specs.Table.{fieldsOf, whichOf, fileCount}
 use Rattle.record.specs.Breaks.{breakOf, findingOf}
-use Rattle.keys.specs.declared.group.Best.{Best}
 
 -- the tests and the reasons of a group at record i (counted from 0) and field f, in the order of the reasons
 abbrev pub Tests : Type 0
@@ -46,21 +42,6 @@ groupFinding tests reasons k n = findingOf (firstOf (λ i. firstOf (λ c. cellBr
 unfoldable pub brokenBy : (ℕ → Tests) → Kind → ℕ → ℕ → ℕ → ℕ → Bool
 brokenBy tests k m n i f =
     leb 1 i && leb i m && leb f (fieldsOf k) && getD (tests (n / 10) (i - 1) f) (n % 10) false
-
--- BY CELLS: the same, from the first record of each cell
-
--- of two answers the one with the lower record, and of equals the first
-abbrev pub betterOf : Best → Found → ℕ → Best
-betterOf b Nothing c = b
-betterOf b (At i) c = pick (b .found && leb (b .at) i) b (record { found = true; at = i; cell = c })
-
-abbrev pub noBest : Best
-noBest = record { found = false; at = 0; cell = 0 }
-
--- the best of the first n cells, where g gives each cell's first record
-unfoldable pub bestOf : (ℕ → Found) → ℕ → Best
-bestOf g zero = noBest
-bestOf g (suc n) = betterOf (bestOf g n) (g n) n
 
 -- OVER THE FILES, in the order of their numbers
 abbrev pub breakIn : Finding → Option Break

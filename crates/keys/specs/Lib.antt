@@ -1,3 +1,4 @@
 pub mod Rules
 pub mod Groups
 pub mod Findings
+pub mod machinery

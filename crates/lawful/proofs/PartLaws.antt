@@ -22,7 +22,7 @@ use Rattle.record.specs.Table.{letterOf}
 use Rattle.keys.specs.Rules.{dangles}
 use Rattle.keys.proofs.ReferLaws.{names-column, dangles-filled}
 use Rattle.topology.specs.Rules.{xAt, yAt, highest, highestIn, tramoLine, tramoStart, tramoEnd, startElsewhere, endElsewhere, placed, placedBefore, nodeUsed}
-use Rattle.topology.specs.Places.{spotOf}
+use Rattle.topology.specs.machinery.Places.{spotOf}
 use Rattle.topology.proofs.PlaceLaws.{spotAt, spot-new}
 use Rattle.topology.proofs.OrderRules.{gap-column, alone-column}
 use Rattle.topology.proofs.EndLaws.{highest-column}

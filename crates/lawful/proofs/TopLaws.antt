@@ -12,7 +12,7 @@ use lib.ListN.{length, getD, set}
 use lib.Seq.{getD-set-same, getD-set-other}
 use borrow.Author.Tests.{eq-eqb, ne-eqb, lt-ltb, le-ltb}
 use Rattle.index.specs.Keys.{listed}
-use Rattle.index.specs.Look.{lineOf, HighestIn}
+use Rattle.index.specs.Look.{keyLine, HighestIn}
 use Rattle.index.specs.Hint.{guessOf}
 use Rattle.index.specs.declared.Found.the-variants.{At}
 use Rattle.topology.specs.Rules.{highestIn}
@@ -69,8 +69,8 @@ module _ (keys lines hints : List ℕ) (m : ℕ) where
   pub tops-none : {tops : List ℕ} → ((t : ℕ) → getD tops t 0 ≡ 0) → Tops keys lines hints m tops 0
   tops-none zeros = record { sound = λ t. inl (zeros t); high = λ i l. absurd (omega arith) }
 
-  module _ {tops : List ℕ} {j : ℕ} (s : Tops keys lines hints m tops j) {t : ℕ} (g : guessOf lines hints m (lineOf (getD keys j 0)) ≡ At t)
-      (l : t < length tops) (line : getD lines t 0 ≡ lineOf (getD keys j 0)) where
+  module _ {tops : List ℕ} {j : ℕ} (s : Tops keys lines hints m tops j) {t : ℕ} (g : guessOf lines hints m (keyLine (getD keys j 0)) ≡ At t)
+      (l : t < length tops) (line : getD lines t 0 ≡ keyLine (getD keys j 0)) where
     abbrev raised : List ℕ
     raised = set tops t (higherOf keys (getD tops t 0) j)
 
@@ -84,7 +84,7 @@ module _ (keys lines hints : List ℕ) (m : ℕ) where
     better = subst (Higher keys (getD tops t 0) j) (sym at-place) (higher-is keys (getD tops t 0) j)
 
     abbrev Sound : ℕ → Type 0
-    Sound r = (r ≤ j + 1) × (lineOf (getD keys (r - 1) 0) ≡ getD lines t 0)
+    Sound r = (r ≤ j + 1) × (keyLine (getD keys (r - 1) 0) ≡ getD lines t 0)
 
     sound-here : (getD raised t 0 ≡ 0) ⊎ Sound (getD raised t 0)
     sound-here =
@@ -92,30 +92,30 @@ module _ (keys lines hints : List ℕ) (m : ℕ) where
         (⊎-elim
         (λ (e : getD raised t 0 ≡ j + 1).
         let q : getD raised t 0 - 1 ≡ j = omega arith in
-        (omega arith, ap (λ (r : ℕ). lineOf (getD keys r 0)) q ∙ sym line))
+        (omega arith, ap (λ (r : ℕ). keyLine (getD keys r 0)) q ∙ sym line))
         (λ (e : (getD raised t 0 ≡ getD tops t 0) × (0 < getD tops t 0)).
         ⊎-elim
         (λ (z : getD tops t 0 ≡ 0). absurd (omega (arith, z, e .1)))
-        (λ (z : (getD tops t 0 ≤ j) × (lineOf (getD keys (getD tops t 0 - 1) 0) ≡ getD lines t 0)).
-        (omega (arith, e .0, z .0), ap (λ (r : ℕ). lineOf (getD keys (r - 1) 0)) (e .0) ∙ z .1))
+        (λ (z : (getD tops t 0 ≤ j) × (keyLine (getD keys (getD tops t 0 - 1) 0) ≡ getD lines t 0)).
+        (omega (arith, e .0, z .0), ap (λ (r : ℕ). keyLine (getD keys (r - 1) 0)) (e .0) ∙ z .1))
         (s .sound t))
         (better .one))
 
     raises : Tops keys lines hints m raised (j + 1)
     raises = record { sound = λ u. sound-at u (ℕ-discrete u t); high = λ i u. high-at i (ℕ-discrete i j) u }
       where
-        sound-at : (u : ℕ) → Dec (u ≡ t) → (getD raised u 0 ≡ 0) ⊎ ((getD raised u 0 ≤ j + 1) × (lineOf (getD keys (getD raised u 0 - 1) 0) ≡ getD lines u 0))
+        sound-at : (u : ℕ) → Dec (u ≡ t) → (getD raised u 0 ≡ 0) ⊎ ((getD raised u 0 ≤ j + 1) × (keyLine (getD keys (getD raised u 0 - 1) 0) ≡ getD lines u 0))
         sound-at u (yes e) = rw e sound-here
         sound-at u (no h) =
             rw (elsewhere u h)
-            (⊎-elim (λ z. inl z) (λ (z : (getD tops u 0 ≤ j) × (lineOf (getD keys (getD tops u 0 - 1) 0) ≡ getD lines u 0)). inr (omega (arith, z .0), z .1)) (s .sound u))
+            (⊎-elim (λ z. inl z) (λ (z : (getD tops u 0 ≤ j) × (keyLine (getD keys (getD tops u 0 - 1) 0) ≡ getD lines u 0)). inr (omega (arith, z .0), z .1)) (s .sound u))
 
         positive : 0 < getD raised t 0
         positive = ⊎-elim (λ e. omega arith) (λ (e : (getD raised t 0 ≡ getD tops t 0) × (0 < getD tops t 0)). omega (arith, e .0, e .1)) (better .one)
 
         high-past :
-            (i u : ℕ) → Dec (u ≡ t) → guessOf lines hints m (lineOf (getD keys i 0)) ≡ At u → 0 < getD tops u 0 → getD keys i 0 ≤ getD keys (getD tops u 0 - 1) 0
-            → (u : ℕ) × (guessOf lines hints m (lineOf (getD keys i 0)) ≡ At u) × (0 < getD raised u 0) × (getD keys i 0 ≤ getD keys (getD raised u 0 - 1) 0)
+            (i u : ℕ) → Dec (u ≡ t) → guessOf lines hints m (keyLine (getD keys i 0)) ≡ At u → 0 < getD tops u 0 → getD keys i 0 ≤ getD keys (getD tops u 0 - 1) 0
+            → (u : ℕ) × (guessOf lines hints m (keyLine (getD keys i 0)) ≡ At u) × (0 < getD raised u 0) × (getD keys i 0 ≤ getD keys (getD raised u 0 - 1) 0)
         high-past i u (yes e) q p h =
             let a : 0 < getD tops t 0 = rw (← e) p in
             let b : getD keys i 0 ≤ getD keys (getD tops t 0 - 1) 0 = rw (← e) h in
@@ -124,7 +124,7 @@ module _ (keys lines hints : List ℕ) (m : ℕ) where
 
         high-at :
             (i : ℕ) → Dec (i ≡ j) → i < j + 1
-            → (u : ℕ) × (guessOf lines hints m (lineOf (getD keys i 0)) ≡ At u) × (0 < getD raised u 0) × (getD keys i 0 ≤ getD keys (getD raised u 0 - 1) 0)
+            → (u : ℕ) × (guessOf lines hints m (keyLine (getD keys i 0)) ≡ At u) × (0 < getD raised u 0) × (getD keys i 0 ≤ getD keys (getD raised u 0 - 1) 0)
         high-at i (yes e) l' = (t, rw e g, positive, rw e (better .here))
         high-at i (no d) l' = let r = s .high i (omega (arith, d)) in high-past i (r .0) (ℕ-discrete (r .0) t) (r .1) (r .2) (r .3)
 
@@ -142,11 +142,11 @@ unfolding HighestIn
 top-highest keys lines hints m {tops} {n} s line {t} g e p =
     ⊎-elim
     (λ z. absurd (omega arith))
-    (λ (z : (getD tops t 0 ≤ n) × (lineOf (getD keys (getD tops t 0 - 1) 0) ≡ getD lines t 0)).
+    (λ (z : (getD tops t 0 ≤ n) × (keyLine (getD keys (getD tops t 0 - 1) 0) ≡ getD lines t 0)).
     (omega (arith, z .0), z .1 ∙ e, above))
     (s .sound t)
   where
-    above : (k : ℕ) → k < n → lineOf (getD keys k 0) ≡ line → getD keys k 0 ≤ getD keys (getD tops t 0 - 1) 0
+    above : (k : ℕ) → k < n → keyLine (getD keys k 0) ≡ line → getD keys k 0 ≤ getD keys (getD tops t 0 - 1) 0
     above k l q =
         let r = s .high k l in
         let same : r .0 ≡ t = at-same (sym (r .1) ∙ ap (guessOf lines hints m) q ∙ g) in

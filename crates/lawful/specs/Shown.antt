@@ -1,4 +1,4 @@
--- What a quick look shows of a delivery that breaks no rule from 30 on, file by file; no promise cites this file.
+-- Machinery: what a quick look shows of a delivery that breaks no rule from 30 on, file by file; no promise cites this file.
 -- Assumes nothing.
 use Prim.Native.Nat.{ℕ, _+_, _-_, _<_, _≤_}
 use mathlib.Core.Bool.{Bool, true, false, _&&_, _||_}
@@ -11,7 +11,7 @@ use Rattle.laws.specs.Find.{any, names}
 use Rattle.laws.specs.Row.{pick}
 use Rattle.index.specs.declared.Found.the-variants.{At}
 use Rattle.index.specs.Keys.{listed}
-use Rattle.index.specs.Look.{lineOf}
+use Rattle.index.specs.Look.{keyLine}
 use Rattle.index.specs.Hint.{guessOf}
 use Rattle.record.specs.declared.kind.Kind.{Kind}
 use Rattle.record.specs.declared.kind.Kind.the-variants.{Catalogo, ObPun, ObTex, ObLin, Tramo, Vertice, Nodo}
@@ -20,7 +20,7 @@ use Rattle.record.specs.Files.{Delivery}
 use Rattle.record.specs.Names.{nameAt, vertexKey, keyOf}
 use Rattle.record.specs.Table.{letterOf}
 use Rattle.keys.specs.Rules.{repeats, dangles, typedIn, keyTests}
-use Rattle.topology.specs.Rules.{xAt, yAt, gap, alone, highestIn, highest, tramoLine, startElsewhere, endElsewhere, placedBefore, pointElsewhere, nodeUsed, fifties}
+use Rattle.topology.specs.Rules.{xAt, yAt, gap, unpaired, highestIn, highest, tramoLine, startElsewhere, endElsewhere, placedBefore, pointElsewhere, nodeUsed, fifties}
 
 -- IN ARRAYS: one of the first n records has the number a and the tag w
 unfoldable pub tagged : List ℕ → List ℕ → ℕ → ℕ → ℕ → Bool
@@ -46,7 +46,7 @@ AllHeld ids nx ny m starts ends t points p xs ys n =
 
 -- 50 and 51 hold of vertex i, by the keys of the first n
 unfoldable pub Numbered : List ℕ → ℕ → ℕ → Type 0
-Numbered keys n i = (gap (listed keys) n i ≡ false) × (alone (listed keys) n i ≡ false)
+Numbered keys n i = (gap (listed keys) n i ≡ false) × (unpaired (listed keys) n i ≡ false)
 
 -- a vertex with the key is where the node is that has the name
 unfoldable pub Met : List ℕ → List ℕ → List ℕ → ℕ → ℕ → List ℕ → List ℕ → List ℕ → ℕ → ℕ → Type 0
@@ -72,10 +72,10 @@ higherOf keys top j = pick (eqb top 0 || ltb (getD keys (top - 1) 0) (getD keys 
 -- the highest vertex of each line, found by a look-up of the line: a place has the vertex's number, counted from 1, or 0. What a place
 -- has is a vertex of its line, and no vertex of the first j is higher than what its line's place has
 pub record Tops (keys : List ℕ) (lines hints : List ℕ) (m : ℕ) (tops : List ℕ) (j : ℕ) : Type 0 where
-  pub sound : (t : ℕ) → (getD tops t 0 ≡ 0) ⊎ ((getD tops t 0 ≤ j) × (lineOf (getD keys (getD tops t 0 - 1) 0) ≡ getD lines t 0))
+  pub sound : (t : ℕ) → (getD tops t 0 ≡ 0) ⊎ ((getD tops t 0 ≤ j) × (keyLine (getD keys (getD tops t 0 - 1) 0) ≡ getD lines t 0))
   pub high :
       (i : ℕ) → i < j
-      → (t : ℕ) × (guessOf lines hints m (lineOf (getD keys i 0)) ≡ At t) × (0 < getD tops t 0) × (getD keys i 0 ≤ getD keys (getD tops t 0 - 1) 0)
+      → (t : ℕ) × (guessOf lines hints m (keyLine (getD keys i 0)) ≡ At t) × (0 < getD tops t 0) × (getD keys i 0 ≤ getD keys (getD tops t 0 - 1) 0)
 
 -- OF FILES: no record has an earlier one's key
 abbrev pub Distinct : Kind → Table → Type 0
@@ -125,7 +125,7 @@ pub record Lined (tramo vertice nodo : Table) : Type 0 where
   pub start : Refers Tramo tramo 6 Nodo nodo 1
   pub last : Refers Tramo tramo 7 Nodo nodo 1
   pub unbroken : (i : ℕ) → i < vertice .count → gap (keyOf Vertice vertice) (vertice .count) i ≡ false
-  pub paired : (i : ℕ) → i < vertice .count → alone (keyOf Vertice vertice) (vertice .count) i ≡ false
+  pub paired : (i : ℕ) → i < vertice .count → unpaired (keyOf Vertice vertice) (vertice .count) i ≡ false
   pub starts : (i : ℕ) → i < tramo .count → startElsewhere tramo vertice nodo i ≡ false
   pub ends : (i : ℕ) → i < tramo .count → endElsewhere tramo vertice nodo i ≡ false
   pub ended : (i : ℕ) → i < tramo .count → eqb (highest vertice (tramoLine tramo i)) 0 ≡ false

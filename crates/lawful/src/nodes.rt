@@ -23,7 +23,7 @@ ghost use Rattle.record.specs.Table.{limit};
 ghost use Rattle.record.specs.Says.{tableOf};
 ghost use Rattle.record.specs.machinery.Columns.{Fills};
 ghost use Rattle.record.specs.Names.{nameAt};
-ghost use Rattle.topology.specs.Places.{spotOf};
+ghost use Rattle.topology.specs.machinery.Places.{spotOf};
 ghost use Rattle.topology.specs.Rules.{xAt, yAt, placedBefore};
 ghost use Rattle.lawful.specs.Shown.{stands, placedIn, AllHeld, Lined, Used, Noded, Spots};
 

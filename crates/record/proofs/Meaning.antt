@@ -25,12 +25,12 @@ use Rattle.record.specs.declared.reason.Finding.{Finding}
 use Rattle.record.specs.declared.reason.Finding.the-variants.{Fine, Broken}
 use Rattle.record.specs.Cut.{countOf, recordOf}
 use Rattle.record.specs.Rules.{twenties}
-use Rattle.record.specs.Breaks.{numberOf, breakOf, findingOf, atPlace, tens, shapeTests, shapeBreaks, twentyReasons, recordBreaks, fieldBreaksAt, fieldBreaks, shapeFinding, fieldsFinding}
+use Rattle.record.specs.Breaks.{numberOf, breakOf, findingOf, atPlace, tenReasons, shapeTests, shapeBreaks, twentyReasons, recordBreaks, fieldBreaksAt, fieldBreaks, shapeFinding, fieldsFinding}
 use Rattle.record.specs.Claims.{there, testsAt, broken, MeansBy, Means}
 
 -- the reasons below 30, by their tens
 unfoldable groupAt : ℕ → List Reason
-groupAt t = getD ([] ∷ tens ∷ twentyReasons ∷ []) t []
+groupAt t = getD ([] ∷ tenReasons ∷ twentyReasons ∷ []) t []
 
 unfoldable reasonAt : ℕ → ℕ → Reason
 reasonAt t u = getD (groupAt t) u R.LongFile10
@@ -270,6 +270,6 @@ module _ (t : ℕ) (s : List ℕ) (k : Kind) where
   -- the break shown has its number's reason
   pub means-shown :
       (b : Break) → Means t s k (Broken b)
-      → b ≡ breakOf (getD (getD ([] ∷ tens ∷ twentyReasons ∷ []) t []) (numberOf (b .reason) % 10) R.LongFile10) k (b .«record») (b .field)
+      → b ≡ breakOf (getD (getD ([] ∷ tenReasons ∷ twentyReasons ∷ []) t []) (numberOf (b .reason) % 10) R.LongFile10) k (b .«record») (b .field)
   unfolding MeansBy reasonAt groupAt
   means-shown b m = break-one b _ (rw (m .0) at (sym (known (b .reason) (means-below b m)))) (m .1) refl refl

@@ -15,7 +15,7 @@ use Rattle.laws.specs.Row.{pick, row, each}
 use Rattle.laws.proofs.FindLaws.{true-false}
 use Rattle.field.specs.declared.class.Class.the-variants.{Blank}
 use Rattle.field.specs.Bytes.{allOf}
-use Rattle.field.specs.Digits.{numberOf}
+use Rattle.field.specs.Digits.{numberWritten}
 use Rattle.field.specs.Signs.{signed}
 use Rattle.field.specs.Texts.{trimmed, firstBytes, notGiven, wordOf}
 use Rattle.field.proofs.DigitLaws.{blank-number}
@@ -91,9 +91,9 @@ module _ (t b : List ℕ) where
   missing-other Size h = said-missing _ refl
 
   -- NUMBERS
-  pub number-said : (form : Form) → form ≡ Number → numberOf t ≡ numberIn (saidAs form t b)
+  pub number-said : (form : Form) → form ≡ Number → numberWritten t ≡ numberIn (saidAs form t b)
   unfolding saidAs
-  number-said form e = rw e (picked numberIn (numberOf t) (allOf Blank t) (number (numberOf t)) (blank-number t) (λ _. refl))
+  number-said form e = rw e (picked numberIn (numberWritten t) (allOf Blank t) (number (numberWritten t)) (blank-number t) (λ _. refl))
 
   pub no-number : (form : Form) → Among noNumber form → 0 ≡ numberIn (saidAs form t b)
   unfolding saidAs
@@ -117,12 +117,12 @@ module _ (t b : List ℕ) where
   no-place = no-size placeIn (λ _. refl) (λ _. refl)
 
   -- PLACES of a coordinate that is not missing; the code's test is of a minus before a number that is not zero
-  pub place-said : (form : Form) → form ≡ Size → isMissing (saidAs form t b) ≡ false → placeOf (signed (eqb (getD b 0 0) 45) (numberOf t)) ≡ placeIn (saidAs form t b)
+  pub place-said : (form : Form) → form ≡ Size → isMissing (saidAs form t b) ≡ false → placeOf (signed (eqb (getD b 0 0) 45) (numberWritten t)) ≡ placeIn (saidAs form t b)
   unfolding saidAs
   place-said form e m =
-      ap placeIn (sym (there (allOf Blank t) (coordinate (signed (eqb (getD b 0 0) 45) (numberOf t))) (saidAs form t b) (rw e) m .1))
+      ap placeIn (sym (there (allOf Blank t) (coordinate (signed (eqb (getD b 0 0) 45) (numberWritten t))) (saidAs form t b) (rw e) m .1))
 
-  pub place-read : {x n : ℕ} {test : Bool} (form : Form) → form ≡ Size → isMissing (saidAs form t b) ≡ false → x ≡ getD b 0 0 → n ≡ numberOf t
+  pub place-read : {x n : ℕ} {test : Bool} (form : Form) → form ≡ Size → isMissing (saidAs form t b) ≡ false → x ≡ getD b 0 0 → n ≡ numberWritten t
       → (eqb x 45 && not (eqb n 0)) ≡ test → pick test (n + n) (n + n + 1) ≡ placeIn (saidAs form t b)
   place-read {x} {n} form e m p q y = rw (← y) (place-code (eqb x 45) n ∙ rw (p, q) (place-said form e m))
 
@@ -148,16 +148,16 @@ module _ (t b : List ℕ) where
 
   pub none-number : {A : Type 0} (g : Said → A) (form : Form) → form ≡ Number → ((n : ℕ) → g missing ≡ g (number n)) → g missing ≡ g (saidAs form t b)
   unfolding saidAs
-  none-number g form e h = rw e (said-none g (number (numberOf t)) (h (numberOf t)))
+  none-number g form e h = rw e (said-none g (number (numberWritten t)) (h (numberWritten t)))
 
   pub none-size : {A : Type 0} (g : Said → A) (form : Form) → form ≡ Size → ((z : ℤ) → g missing ≡ g (coordinate z)) → g missing ≡ g (saidAs form t b)
   unfolding saidAs
   none-size g form e h = rw e (said-none g _ (h _))
 
   -- KEYS AND LETTERS of a field that is not missing
-  pub key-number : (form : Form) → form ≡ Number → isMissing (saidAs form t b) ≡ false → numberOf t + 1 ≡ keyIn (saidAs form t b)
+  pub key-number : (form : Form) → form ≡ Number → isMissing (saidAs form t b) ≡ false → numberWritten t + 1 ≡ keyIn (saidAs form t b)
   unfolding saidAs
-  key-number form e m = ap keyIn (sym (there (allOf Blank t) (number (numberOf t)) (saidAs form t b) (rw e) m .1))
+  key-number form e m = ap keyIn (sym (there (allOf Blank t) (number (numberWritten t)) (saidAs form t b) (rw e) m .1))
 
   pub key-text : (form : Form) → Among texts form → isMissing (saidAs form t b) ≡ false → wordOf (trimmed t) ≡ keyIn (saidAs form t b)
   key-text form h m = ap keyIn (sym (text-there form h m .1))
@@ -203,7 +203,7 @@ text-no-n Size h e = miss texts 4 tt h
 -- a number's key, missing or not
 pub number-key : (form : Form) (t b : List ℕ) → form ≡ Number → keyIn (saidAs form t b) ≡ pick (isMissing (saidAs form t b)) 0 (numberIn (saidAs form t b) + 1)
 unfolding saidAs
-number-key form t b e = rw e (go (allOf Blank t) (numberOf t))
+number-key form t b e = rw e (go (allOf Blank t) (numberWritten t))
   where
     go : (blank : Bool) (n : ℕ)
         → keyIn (pick blank missing (number n)) ≡ pick (isMissing (pick blank missing (number n))) 0 (numberIn (pick blank missing (number n)) + 1)
@@ -258,7 +258,7 @@ Keyed Size t = ⊥
 
 -- what such a field says where it is not blank, by whether it is a number
 abbrev keySaid : Bool → List ℕ → Said
-keySaid true t = number (numberOf t)
+keySaid true t = number (numberWritten t)
 keySaid false t = text (trimmed t)
 
 as-key : (form : Form) (t b : List ℕ) → Keyed form t → (saidAs form t b ≡ pick (allOf Blank t) missing (keySaid (isN form) t)) × (isN form ≡ false → length t ≤ 7)

@@ -73,8 +73,8 @@ indexOf tests n = orEnd n (firstIndex (λ u. getD tests u false) n)
 unfoldable pub atPlace : List Bool → List Reason → Kind → ℕ → ℕ → Nest Break
 atPlace tests reasons k i f = node (length tests) (λ u. leaf (hit (getD tests u false) (breakOf (getD reasons u R.LongFile10) k i f)))
 
-abbrev pub tens : List Reason
-tens = R.LongFile10 ∷ R.RaggedFile11 ∷ []
+abbrev pub tenReasons : List Reason
+tenReasons = R.LongFile10 ∷ R.RaggedFile11 ∷ []
 
 -- 10 stands at record 0, 11 at the whole records plus 1; both at field 0
 abbrev pub shapeTests : List ℕ → Kind → ℕ → List Bool
@@ -82,7 +82,7 @@ shapeTests s k i = (eqb i 0 && breaks10 s k) ∷ (eqb i (countOf s k + 1) && bre
 
 -- the breaks of a file's shape, by record, field and reason
 unfoldable pub shapeBreaks : List ℕ → Kind → Nest Break
-shapeBreaks s k = node (countOf s k + 2) (λ i. node 1 (λ f. atPlace (shapeTests s k i) tens k i f))
+shapeBreaks s k = node (countOf s k + 2) (λ i. node 1 (λ f. atPlace (shapeTests s k i) tenReasons k i f))
 
 abbrev pub twentyReasons : List Reason
 twentyReasons = R.BadEnd20 ∷ R.NoBar21 ∷ R.NotNumber22 ∷ R.NotText23 ∷ R.Missing24 ∷ R.Outside25 ∷ []

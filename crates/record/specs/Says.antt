@@ -10,7 +10,7 @@ use lib.Dec.{eqb}
 use Rattle.laws.specs.Row.{pick}
 use Rattle.field.specs.declared.class.Class.the-variants.{Blank}
 use Rattle.field.specs.Bytes.{allOf}
-use Rattle.field.specs.Digits.{numberOf}
+use Rattle.field.specs.Digits.{numberWritten}
 use Rattle.field.specs.Signs.{signed}
 use Rattle.field.specs.Texts.{trimmed, wordOf}
 use Rattle.record.specs.declared.kind.Kind.{Kind}
@@ -34,8 +34,8 @@ unfoldable pub saidAs : Form → List ℕ → List ℕ → Said
 saidAs Words t b = textSaid t
 saidAs Code t b = textSaid t
 saidAs Sign t b = missing
-saidAs Number t b = pick (allOf Blank t) missing (number (numberOf t))
-saidAs Size t b = pick (allOf Blank t) missing (coordinate (signed (eqb (getD b 0 0) 45) (numberOf t)))
+saidAs Number t b = pick (allOf Blank t) missing (number (numberWritten t))
+saidAs Size t b = pick (allOf Blank t) missing (coordinate (signed (eqb (getD b 0 0) 45) (numberWritten t)))
 
 -- what field f of a record's bytes says
 unfoldable pub saidIn : List ℕ → Kind → ℕ → Said

@@ -113,14 +113,14 @@ centroid = pair 9 never 0 4 (pair 10 never 2 2 zPair)
 
 -- A FILE: its number; the letter of its objects' catalogue type, 0 where it has none; of how many fields, the first ones, its key is
 -- made; its fields in order, numbered from 1
-pub record Row : Type 0 where
+pub record FileRow : Type 0 where
   pub file : ℕ
   pub letter : ℕ
   pub keys : ℕ
   pub fields : List Col
 
 -- THE ROWS
-abbrev pub rowOf : Kind → Row
+abbrev pub rowOf : Kind → FileRow
 -- CODIGO, TIPO, NOMBRE_C, DEFINICI. Its own CODIGO refers to nothing
 rowOf Catalogo = record {
   file = 1;

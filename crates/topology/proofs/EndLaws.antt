@@ -15,7 +15,7 @@ use Rattle.laws.proofs.RowLaws.{picked}
 use Rattle.laws.specs.Find.{any, firstIndex}
 use Rattle.laws.proofs.FindLaws.{any-true, index-same}
 use Rattle.index.specs.Keys.{listed}
-use Rattle.index.specs.Look.{Sought, lineOf, HighestIn}
+use Rattle.index.specs.Look.{Sought, keyLine, HighestIn}
 use Rattle.index.specs.declared.Found.{Found}
 use Rattle.index.specs.declared.Found.the-variants.{At, Nothing}
 use Rattle.index.proofs.LookLaws.{sought-record, sought-yes, sought-none}
@@ -27,7 +27,7 @@ use Rattle.record.specs.Names.{nameAt, keyOf}
 use Rattle.keys.proofs.ReferLaws.{names-column}
 use Rattle.topology.specs.declared.ends.End.{End}
 use Rattle.topology.specs.declared.ends.End.the-variants.{Start, Last}
-use Rattle.topology.specs.Ends.{nodeField, endKey, apart}
+use Rattle.topology.specs.machinery.Ends.{nodeField, endKey, apart}
 use Rattle.topology.specs.Rules.{xAt, yAt, nodeIn, highestIn, meets, elsewhere, startElsewhere, endElsewhere, pointElsewhere}
 
 here-or : (n : ℕ) {k : ℕ} → k < suc n → (k ≡ n) ⊎ (k < n)
@@ -35,20 +35,20 @@ here-or n l = eq-or-lt-of-le (le-of-suc-le-suc l)
 
 -- THE HIGHEST of a line: no key of the line is greater, and it is no greater than what is no less than each of them
 module _ (key : ℕ → ℕ) (line : ℕ) where
-  highest-most : (n m : ℕ) → ((k : ℕ) → k < n → lineOf (key k) ≡ line → key k ≤ m) → highestIn key line n ≤ m
+  highest-most : (n m : ℕ) → ((k : ℕ) → k < n → keyLine (key k) ≡ line → key k ≤ m) → highestIn key line n ≤ m
   unfolding highestIn
   highest-most zero m all = omega arith
   highest-most (suc n) m all =
       let rest = highest-most n m (λ k l. all k (omega arith)) in
-      picked (λ h. h ≤ m) (eqb (lineOf (key n)) line) _ _ (λ e. max-le (all n (omega arith) (eqb-true _ _ e)) rest) (λ e. rest)
+      picked (λ h. h ≤ m) (eqb (keyLine (key n)) line) _ _ (λ e. max-le (all n (omega arith) (eqb-true _ _ e)) rest) (λ e. rest)
 
-  highest-least : (n : ℕ) {k : ℕ} → k < n → lineOf (key k) ≡ line → key k ≤ highestIn key line n
+  highest-least : (n : ℕ) {k : ℕ} → k < n → keyLine (key k) ≡ line → key k ≤ highestIn key line n
   unfolding highestIn
   highest-least zero l e = absurd (omega arith)
   highest-least (suc n) {k} l e =
-      picked (λ h. key k ≤ h) (eqb (lineOf (key n)) line) (max (key n) (highestIn key line n)) (highestIn key line n)
+      picked (λ h. key k ≤ h) (eqb (keyLine (key n)) line) (max (key n) (highestIn key line n)) (highestIn key line n)
       (λ t. ⊎-elim (λ q. rw q (le-max-left _ _)) (λ u. le-trans (highest-least n u e) (le-max-right _ _)) (here-or n l))
-      (λ t. ⊎-elim (λ q. absurd (eqb-false (lineOf (key n)) line t (rw (← q) e))) (λ u. highest-least n u e) (here-or n l))
+      (λ t. ⊎-elim (λ q. absurd (eqb-false (keyLine (key n)) line t (rw (← q) e))) (λ u. highest-least n u e) (here-or n l))
 
 -- it is what the index finds
 module _ (keys : List ℕ) (n line : ℕ) {f : Found} (h : HighestIn keys n line f) where

@@ -26,7 +26,7 @@ use Rattle.record.specs.Says.{Table}
 use Rattle.record.specs.Files.{Delivery}
 use Rattle.keys.specs.Rules.{orFirst}
 use Rattle.keys.proofs.CellLaws.{first-false}
-use Rattle.topology.specs.Places.{orIndex}
+use Rattle.topology.specs.machinery.Places.{orIndex}
 use Rattle.topology.specs.Rules.{isAt, samePlace, breaks50, breaks51, breaks52, breaks53, breaks54, breaks55, breaks56, breaks57, breaks59, fifties, reasonsAt}
 
 -- IN A LIST, whose first is number n: the default d stands at the number u, where it does at each number that u can be

@@ -17,7 +17,7 @@ use Rattle.index.specs.declared.Found.{Found}
 use Rattle.record.specs.Table.{limit}
 use Rattle.record.specs.machinery.Columns.{Fills}
 use Rattle.keys.proofs.ReferLaws.{fills-room}
-use Rattle.topology.specs.Places.{Marks}
+use Rattle.topology.specs.machinery.Places.{Marks}
 
 -- THE LOOP: of n records the first i are marked where the test holds, and the array is else as it was
 pub record Marking (before : List ℕ) (test : ℕ → Bool) (n : ℕ) (after : List ℕ) (i : ℕ) : Type 0 where

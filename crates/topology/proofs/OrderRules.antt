@@ -12,7 +12,7 @@ use Rattle.index.specs.Keys.{listed, foundOf}
 use Rattle.index.specs.declared.Found.{Found}
 use Rattle.record.specs.machinery.Columns.{Fills}
 use Rattle.keys.proofs.ReferLaws.{names-column}
-use Rattle.topology.specs.Rules.{orderOf, gap, alone}
+use Rattle.topology.specs.Rules.{orderOf, gap, unpaired}
 
 module _ (key : ℕ → ℕ) (n i : ℕ) where
   -- 50
@@ -29,12 +29,12 @@ module _ (key : ℕ → ℕ) (n i : ℕ) where
   gap-one d l = rw (ne-eqb (orderOf (key i)) 0 d, le-ltb 1 (orderOf (key i)) l)
 
   -- 51
-  pub alone-one : {r : Bool} → orderOf (key i) ≡ 1 → r ≡ names key n (key i + 1) → not r ≡ alone key n i
-  unfolding alone
+  pub alone-one : {r : Bool} → orderOf (key i) ≡ 1 → r ≡ names key n (key i + 1) → not r ≡ unpaired key n i
+  unfolding unpaired
   alone-one e q = rw (eq-eqb (orderOf (key i)) 1 e, q)
 
-  pub alone-other : (orderOf (key i) ≡ 1 → ⊥) → false ≡ alone key n i
-  unfolding alone
+  pub alone-other : (orderOf (key i) ≡ 1 → ⊥) → false ≡ unpaired key n i
+  unfolding unpaired
   alone-other d = rw (ne-eqb (orderOf (key i)) 1 d)
 
 -- THE ARRAY as the column
@@ -46,6 +46,6 @@ module _ {l : List ℕ} {key : ℕ → ℕ} {m n : ℕ} (fills : Fills l key m n
   unfolding gap
   gap-column i u = rw (fills .holds i u, names-column fills (key i - 1))
 
-  pub alone-column : (i : ℕ) → i < m → alone (listed l) n i ≡ alone key m i
-  unfolding alone
+  pub alone-column : (i : ℕ) → i < m → unpaired (listed l) n i ≡ unpaired key m i
+  unfolding unpaired
   alone-column i u = rw (fills .holds i u, names-column fills (key i + 1))

@@ -26,7 +26,7 @@ use Rattle.keys.specs.Rules.{repeats}
 use Rattle.keys.proofs.ReferLaws.{names-column}
 use Rattle.keys.proofs.FoundLaws.{any-of-nothing}
 use Rattle.keys.proofs.RepeatLaws.{repeat-filled}
-use Rattle.topology.specs.Places.{positionOf, spotOf}
+use Rattle.topology.specs.machinery.Places.{positionOf, spotOf}
 use Rattle.topology.specs.Rules.{xAt, yAt, zAt, samePlace, placedBefore}
 
 -- A LOOK-UP of the number x in a column, f its answer

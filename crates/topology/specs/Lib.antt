@@ -1,4 +1,3 @@
 pub mod Rules
-pub mod Ends
-pub mod Places
 pub mod Findings
+pub mod machinery

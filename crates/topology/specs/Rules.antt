@@ -8,7 +8,7 @@ use lib.Dec.{ltb, eqb}
 use lib.ListN.{getD}
 use Rattle.laws.specs.Find.{firstIndex, any, names}
 use Rattle.laws.specs.Row.{pick}
-use Rattle.index.specs.Look.{lineOf}
+use Rattle.index.specs.Look.{keyLine}
 use Rattle.record.specs.declared.kind.Kind.{Kind}
 use Rattle.record.specs.declared.kind.Kind.the-variants.{ObPun, ObLin, Tramo, Vertice, Nodo}
 use Rattle.record.specs.declared.reason.Reason.{Reason}
@@ -51,7 +51,7 @@ hasVertex vertices key = names (keyOf Vertice vertices) (vertices .count) key
 -- the key of the line's vertex of highest order among the first n; 0 where it has none
 unfoldable pub highestIn : (ℕ → ℕ) → ℕ → ℕ → ℕ
 highestIn key line zero = 0
-highestIn key line (suc n) = pick (eqb (lineOf (key n)) line) (max (key n) (highestIn key line n)) (highestIn key line n)
+highestIn key line (suc n) = pick (eqb (keyLine (key n)) line) (max (key n) (highestIn key line n)) (highestIn key line n)
 
 abbrev pub highest : Table → ℕ → ℕ
 highest vertices line = highestIn (keyOf Vertice vertices) line (vertices .count)
@@ -87,11 +87,11 @@ unfoldable pub breaks50 : Delivery → Kind → ℕ → ℕ → Bool
 breaks50 d k i f = isAt Vertice 2 k f && gap (keyOf Vertice (d Vertice)) (d Vertice .count) i
 
 -- 51: VERTICE order 1 and its line has no order 2
-unfoldable pub alone : (ℕ → ℕ) → ℕ → ℕ → Bool
-alone key n i = eqb (orderOf (key i)) 1 && not (names key n (key i + 1))
+unfoldable pub unpaired : (ℕ → ℕ) → ℕ → ℕ → Bool
+unpaired key n i = eqb (orderOf (key i)) 1 && not (names key n (key i + 1))
 
 unfoldable pub breaks51 : Delivery → Kind → ℕ → ℕ → Bool
-breaks51 d k i f = isAt Vertice 2 k f && alone (keyOf Vertice (d Vertice)) (d Vertice .count) i
+breaks51 d k i f = isAt Vertice 2 k f && unpaired (keyOf Vertice (d Vertice)) (d Vertice .count) i
 
 -- 52: line's vertex of order 1 exists and lies elsewhere in X or Y than the start node
 unfoldable pub startElsewhere : Table → Table → Table → ℕ → Bool

@@ -27,7 +27,7 @@ ghost use Rattle.index.specs.Order.{Index};
 ghost use Rattle.record.specs.Says.{tableOf};
 ghost use Rattle.record.specs.machinery.Columns.{Fills};
 ghost use Rattle.record.specs.Names.{nameAt, keyOf};
-ghost use Rattle.topology.specs.Ends.{nodeField, endKey, apart};
+ghost use Rattle.topology.specs.machinery.Ends.{nodeField, endKey, apart};
 ghost use Rattle.topology.specs.Rules.{meets, elsewhere, highest, pointElsewhere, tramoLine, highestIn};
 
 // Whether a vertex with the key is where a node with the name is, by scanning.

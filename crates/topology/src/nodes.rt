@@ -29,7 +29,7 @@ ghost use Rattle.record.specs.Says.{tableOf};
 ghost use Rattle.record.specs.machinery.Columns.{Fills};
 ghost use Rattle.record.specs.Names.{nameAt};
 ghost use Rattle.topology.specs.Rules.{xAt, yAt, zAt, placed, samePlace, placedBefore, nodeUsed, objectIdle};
-ghost use Rattle.topology.specs.Places.{positionOf, spotOf, Marks};
+ghost use Rattle.topology.specs.machinery.Places.{positionOf, spotOf, Marks};
 
 // Whether node j has the X, Y and Z of node i.
 fn same_place(nodo: &[u8], i: usize, j: usize) -> bool

@@ -14,7 +14,7 @@ ghost use Rattle.index.specs.Keys.{foundOf, listed};
 ghost use Rattle.index.specs.Order.{Index};
 ghost use Rattle.record.specs.Says.{tableOf};
 ghost use Rattle.record.specs.Names.{keyOf};
-ghost use Rattle.topology.specs.Rules.{gap, alone};
+ghost use Rattle.topology.specs.Rules.{gap, unpaired};
 
 // 50, of a vertex.
 fn is_gap<'a>(keys: &'a [u64], order: &'a [usize], hints: &'a [u16], n: usize, i: usize) -> bool
@@ -34,7 +34,7 @@ fn is_gap<'a>(keys: &'a [u64], order: &'a [usize], hints: &'a [u16], n: usize, i
 // 51, of a vertex.
 fn is_alone<'a>(keys: &'a [u64], order: &'a [usize], hints: &'a [u16], n: usize, i: usize) -> bool
     requires { ⌜ Index (now keys) (now order) n × (i < n) ⌝ }
-    ensures { λ r. ⌜ r ≡ alone (listed (now (keys .entry))) n i ⌝ }
+    ensures { λ r. ⌜ r ≡ unpaired (listed (now (keys .entry))) n i ⌝ }
 {
     let x = keys[i];
     if x % 100000 == 1 {
@@ -59,7 +59,7 @@ fn first_gap_in<'a>(keys: &'a [u64], order: &'a [usize], hints: &'a [u16], n: us
 
 fn first_alone_in<'a>(keys: &'a [u64], order: &'a [usize], hints: &'a [u16], n: usize) -> Found
     requires { ⌜ Index (now keys) (now order) n ⌝ }
-    ensures { λ r. ⌜ r ≡ foundOf (firstIndex (alone (listed (now (keys .entry))) n) n) ⌝ }
+    ensures { λ r. ⌜ r ≡ foundOf (firstIndex (unpaired (listed (now (keys .entry))) n) n) ⌝ }
 {
     let mut i = 0;
     while i < n {
@@ -89,7 +89,7 @@ pub(crate) fn first_gap(vertice: &[u8]) -> Found
 
 // The first vertex that breaks 51.
 pub(crate) fn first_alone(vertice: &[u8]) -> Found
-    ensures { λ r. ⌜ r ≡ foundOf (firstIndex (alone (keyOf Kind.Vertice (tableOf (now (vertice .entry)) Kind.Vertice)) (tableOf (now (vertice .entry)) Kind.Vertice .count)) (tableOf (now (vertice .entry)) Kind.Vertice .count)) ⌝ }
+    ensures { λ r. ⌜ r ≡ foundOf (firstIndex (unpaired (keyOf Kind.Vertice (tableOf (now (vertice .entry)) Kind.Vertice)) (tableOf (now (vertice .entry)) Kind.Vertice .count)) (tableOf (now (vertice .entry)) Kind.Vertice .count)) ⌝ }
 {
     let mut keys = [0u64; LIMIT];
     let n = fill_keys(vertice, Kind::Vertice, &mut keys);

@@ -17,7 +17,7 @@ ghost use Rattle.record.specs.Says.{tableOf};
 ghost use Rattle.record.specs.machinery.Columns.{Fills};
 ghost use Rattle.record.specs.Names.{nameAt};
 ghost use Rattle.topology.specs.Rules.{xAt, yAt, zAt, placed, nodeIn};
-ghost use Rattle.topology.specs.Places.{positionOf};
+ghost use Rattle.topology.specs.machinery.Places.{positionOf};
 
 pub(crate) fn x_at(s: &[u8], k: Kind, i: usize) -> u64
     ensures { λ r. ⌜ r ≡ xAt k (tableOf (now (s .entry)) k) i ⌝ }

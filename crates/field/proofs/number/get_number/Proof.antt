@@ -6,14 +6,14 @@ use native.Mathlib.Nat.{pow-le-pow-right}
 use native.Mathlib.Omega.{arith}
 use lib.Dec.{lit<}
 use lib.ListN.{length}
-use Rattle.field.specs.Digits.{number}
+use Rattle.field.specs.Digits.{digitsNumber}
 use Rattle.field.proofs.NumberLoops.{number-more, number-end, bound-more}
 use borrow.Author.Needs.{needs}
 use Rattle.field.proofs.number.get_number.Statement.{statement}
 use Rattle.field.proofs.number.get_number.Tie as tie
 
 abbrev Inv-loop : tie.InvT-loop
-Inv-loop part end n₀ k₀ n k = (k ≤ end) × (n ≡ number k part) × (n + 23 ≤ 23 * 10 ^ k)
+Inv-loop part end n₀ k₀ n k = (k ≤ end) × (n ≡ digitsNumber k part) × (n + 23 ≤ 23 * 10 ^ k)
 
 abbrev μ-loop : tie.MeasureT-loop
 μ-loop part end n₀ k₀ n k = end - k
@@ -22,7 +22,7 @@ digits-read-requires : tie.Need-digits-read-requires Inv-loop μ-loop
 digits-read-requires c κs = search needs
 
 loop-holds : tie.Need-loop-holds Inv-loop μ-loop
-unfolding number
+unfolding digitsNumber
 loop-holds c = search needs
 
 mul-n : tie.Need-mul-n Inv-loop μ-loop

@@ -4,7 +4,7 @@ use Prim.Native.Nat.{_-_}
 use mathlib.Core.Path.{refl}
 use lib.ListN.{getD}
 use Rattle.record.proofs.ColumnLaws.{Filling, filling-none, filling-more, filling-all, read-fills}
-use Rattle.topology.specs.Places.{spotOf}
+use Rattle.topology.specs.machinery.Places.{spotOf}
 use native.Mathlib.Omega.{arith}
 use borrow.Author.Needs.{needs}
 use Rattle.lawful.proofs.nodes.fill_spots.Statement.{statement}

@@ -5,7 +5,7 @@ use mathlib.Core.Path.{_∙_}
 use Rattle.record.specs.declared.kind.Kind.the-variants.{Tramo, Vertice, Nodo}
 use Rattle.record.specs.Says.{tableOf}
 use Rattle.keys.proofs.FoundLaws.{Passed, found-start, found-more, found-here, found-end}
-use Rattle.topology.specs.Ends.{apart}
+use Rattle.topology.specs.machinery.Ends.{apart}
 use Rattle.topology.proofs.EndLaws.{line-narrow, apart-said}
 use borrow.Author.Needs.{needs}
 use Rattle.topology.proofs.ends.first_apart.Statement.{statement}

@@ -1,6 +1,6 @@
 -- `topology::nodes::spot` meets its contract.
 -- Assumes nothing.
-use Rattle.topology.specs.Places.{spotOf}
+use Rattle.topology.specs.machinery.Places.{spotOf}
 use borrow.Author.Needs.{needs}
 use Rattle.topology.proofs.nodes.spot.Statement.{statement}
 use Rattle.topology.proofs.nodes.spot.Tie as tie

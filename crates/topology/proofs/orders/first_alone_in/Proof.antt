@@ -4,13 +4,13 @@ use Prim.Native.Nat.{_-_}
 use mathlib.Core.Path.{sym, _∙_, refl}
 use Rattle.index.specs.Keys.{listed}
 use Rattle.keys.proofs.FoundLaws.{Passed, found-start, found-more, found-here, found-end}
-use Rattle.topology.specs.Rules.{alone}
+use Rattle.topology.specs.Rules.{unpaired}
 use borrow.Author.Needs.{needs}
 use Rattle.topology.proofs.orders.first_alone_in.Statement.{statement}
 use Rattle.topology.proofs.orders.first_alone_in.Tie as tie
 
 abbrev Inv-loop : tie.InvT-loop
-Inv-loop keys order hints n i₀ i = Passed (alone (listed keys) n) n i
+Inv-loop keys order hints n i₀ i = Passed (unpaired (listed keys) n) n i
 
 abbrev μ-loop : tie.MeasureT-loop
 μ-loop keys order hints n i₀ i = n - i

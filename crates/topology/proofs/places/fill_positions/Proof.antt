@@ -5,7 +5,7 @@ use native.Mathlib.Omega.{arith}
 use borrow.Author.Needs.{needs}
 use Rattle.record.specs.Says.{tableOf}
 use Rattle.record.proofs.ColumnLaws.{Filling, filling-none, filling-more, filling-all, read-fills}
-use Rattle.topology.specs.Places.{positionOf}
+use Rattle.topology.specs.machinery.Places.{positionOf}
 use Rattle.topology.specs.Rules.{xAt, yAt}
 use Rattle.topology.proofs.places.fill_positions.Statement.{statement}
 use Rattle.topology.proofs.places.fill_positions.Tie as tie

@@ -1,7 +1,7 @@
 -- `topology::places::position` meets its contract.
 -- Assumes nothing.
 use borrow.Author.Needs.{needs}
-use Rattle.topology.specs.Places.{positionOf}
+use Rattle.topology.specs.machinery.Places.{positionOf}
 use Rattle.topology.proofs.places.position.Statement.{statement}
 use Rattle.topology.proofs.places.position.Tie as tie
 

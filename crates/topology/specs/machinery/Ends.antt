@@ -1,4 +1,4 @@
--- The two ends of a tramo, as the code's searches ask of them: 52 is of the start and 53 of the end. No promise cites this file.
+-- Machinery: the two ends of a tramo, as the code's searches ask of them: 52 is of the start and 53 of the end. No promise cites this file.
 -- Assumes nothing.
 use Prim.Native.Nat.{ℕ}
 use mathlib.Core.Bool.{Bool}

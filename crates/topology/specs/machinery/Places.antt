@@ -1,4 +1,4 @@
--- What the code's searches of places say; no promise cites this file. Places as numbers that an index can hold: equal places have
+-- Machinery: what the code's searches of places say. No promise cites this file. Places as numbers that an index can hold: equal places have
 -- equal numbers, and unequal ones almost always others.
 -- Assumes nothing.
 use Prim.Native.Nat.{ℕ, _+_, _*_, _%_, _<_}
