@@ -1,11 +1,13 @@
 -- Records in another order obey the rules where the records do.
 -- Assumes nothing.
 use Prim.Native.Nat.{ℕ, _<_}
-use mathlib.Core.Path.{_≡_, ap}
-use lib.ListN.{length}
+use mathlib.Core.Bool.{false}
+use mathlib.Core.Path.{_≡_, ap, _∙_}
+use lib.ListN.{length, getD}
 use Rattle.record.specs.declared.kind.Kind.{Kind}
 use Rattle.codec.specs.declared.values.Values.{Values}
 use Rattle.codec.specs.Values.{valuesSay}
+use Rattle.codec.specs.Refusals.{sixties}
 use Rattle.judge.specs.Obeys.{Records, noValues, valuesAt, tablesOf, Obeys, Shuffled}
 use Rattle.judge.proofs.Rearranged.{Rearranged, keys-rearranged, topology-rearranged}
 
@@ -35,7 +37,7 @@ module _ (vs ws : Records) (sh : (k : Kind) → Shuffled (vs k) (ws k)) where
         few = λ k. rw (sh k .long) (o .few k);
         fields = λ k i f u l m.
             let b : i < length (vs k) = rw (sh k .long) at l in
-            rw (moved-at k i b) (o .fields k (sh k .to i) f u (sh k .to-within i b) m);
+            ap (λ (x : Values). getD (sixties k (valuesSay k x) f) u false) (moved-at k i b) ∙ o .fields k (sh k .to i) f u (sh k .to-within i b) m;
         keys = keys-rearranged (tablesOf vs) (tablesOf ws) tables-shuffled (o .keys);
         topology = topology-rearranged (tablesOf vs) (tablesOf ws) tables-shuffled (o .topology);
       }

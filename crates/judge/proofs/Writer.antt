@@ -1,6 +1,6 @@
 -- What the writer promises: of values that obey the rules, in any order, it makes files that the verdict accepts.
 -- Assumes nothing.
-use Prim.Native.Nat.{ℕ, zero, suc, _+_}
+use Prim.Native.Nat.{ℕ, zero, suc, _+_, _<_}
 use mathlib.Core.Bool.{false}
 use mathlib.Core.List.{map}
 use mathlib.Core.Path.{_≡_, refl, ap, fun-ext, _∙_}
