@@ -1,9 +1,10 @@
 //! What the proved programs are tested with: deliveries stated by hand and
 //! deliveries that are drawn, and the lines that they should give.
 //!
-//! `cargo run -p vectors` writes them; a test holds what is stored to what is
-//! made here. Nothing of the proved library is linked: the expected lines are
-//! those of the independent checker, and of hand where a delivery is stated.
+//! `cargo run -p vectors --manifest-path host/Cargo.toml` writes them; a test
+//! holds what is stored to what is made here. Nothing of the proved library is
+//! linked: the expected lines are the independent checker's, and where a
+//! delivery is stated by hand, so is its line.
 
 mod draft;
 mod seeded;
@@ -23,7 +24,7 @@ pub const ROOM: usize = 2_097_152;
 
 /// The independent checker's line, with its line feed.
 pub fn line(files: &Files) -> String {
-    let lent = [0, 1, 2, 3, 4, 5, 6].map(|file| files[file].as_slice());
+    let lent = std::array::from_fn(|file| files[file].as_slice());
     independent::line(&independent::judge(lent))
 }
 
