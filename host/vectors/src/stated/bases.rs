@@ -1,0 +1,148 @@
+//! The lawful deliveries that samples are made from, row by row.
+
+use crate::draft::Rows;
+use deliveries::{CATALOGO, NODO, OB_LIN, OB_PUN, OB_TEX, TRAMO, VERTICE};
+
+/// Document 01's small delivery S.
+pub(super) const S: &Rows = &[
+    (CATALOGO, "0100000;L;;"),
+    (CATALOGO, "0100001;T;;"),
+    (OB_LIN, "1;;0100000;;;;"),
+    (TRAMO, "1;1;;;0100001;1;2;"),
+    (VERTICE, "1;1;100;200;"),
+    (VERTICE, "1;2;140;200;"),
+    (NODO, "1;;100;200;"),
+    (NODO, "2;;140;200;"),
+];
+
+/// Source 000, example 10.2 (lines 3330 to 3400 of the text), at the widths of
+/// section 5.5. The one id printed between a point object's own id and its
+/// code is the node: node 6 stands at that place, and the example has no
+/// composite objects (its list of files has no OB_COMP).
+pub(super) const EXAMPLE: &Rows = &[
+    (CATALOGO, "0190000;X;TOPONIMO TEMA1;Anotacion generica"),
+    (CATALOGO, "0332400;L;LAGO;Margen de lago"),
+    (
+        CATALOGO,
+        "0332401;T;LAGO;Seccion continua de margen de lago",
+    ),
+    (
+        CATALOGO,
+        "0512700;P;ERMITA;Edificio religioso catolico aislado",
+    ),
+    (
+        CATALOGO,
+        "0630600;L;CARRETERA;Camino asfaltado para el trafico rodado publico",
+    ),
+    (
+        CATALOGO,
+        "0630601;T;CARRETERA;Seccion continua de carretera",
+    ),
+    (
+        CATALOGO,
+        "1010600;P;VERTICE GEODESICO ORDEN 1;Punto de coordenadas geodesicas",
+    ),
+    (OB_PUN, "1;;6;0512700;Ermita del Santo;0;1;3;2;"),
+    (OB_PUN, "2;;6;1010600;Almudena;0;1;3;2;"),
+    (OB_TEX, "1;;0190000;HOLA;1;1;0;1;2;6;"),
+    (OB_LIN, "1;;0630600;Nacional I;;;"),
+    (OB_LIN, "2;;0332400;Orilla de Lago Menor;;;"),
+    (OB_LIN, "3;;0332400;Orilla de Lago Mayor;;;"),
+    (OB_LIN, "4;;0332400;Orilla de Lago Mayor;;;"),
+    (TRAMO, "1;2;;1;0332401;1;1;+"),
+    (TRAMO, "2;1;;2;0630601;2;3;+"),
+    (TRAMO, "3;3;;3;0332401;3;4;+"),
+    (TRAMO, "4;1;;4;0630601;3;4;+"),
+    (TRAMO, "5;4;;5;0332401;3;4;+"),
+    (TRAMO, "6;1;;6;0630601;4;5;+"),
+    (VERTICE, "1;1;2;4;"),
+    (VERTICE, "1;2;2;3;"),
+    (VERTICE, "1;3;3;3;"),
+    (VERTICE, "1;4;2;4;"),
+    (VERTICE, "2;1;4;8;"),
+    (VERTICE, "2;2;5;7;"),
+    (VERTICE, "3;1;5;7;"),
+    (VERTICE, "3;2;3;4;"),
+    (VERTICE, "3;3;7;3;"),
+    (VERTICE, "4;1;5;7;"),
+    (VERTICE, "4;2;7;3;"),
+    (VERTICE, "5;1;5;7;"),
+    (VERTICE, "5;2;9;5;"),
+    (VERTICE, "5;3;7;3;"),
+    (VERTICE, "6;1;7;3;"),
+    (VERTICE, "6;2;9;1;"),
+    (NODO, "1;E;2;4;"),
+    (NODO, "2;E;4;8;"),
+    (NODO, "3;E;5;7;"),
+    (NODO, "4;E;7;3;"),
+    (NODO, "5;E;9;1;"),
+    (NODO, "6;A;3;2;"),
+];
+
+/// A richer lawful delivery, for most samples. Each row's record number stands
+/// behind it.
+#[rustfmt::skip]
+pub(super) const RICH: &Rows = &[
+    (CATALOGO, "0100001;T;CAMINO;Seccion continua de camino"),          // 1
+    (CATALOGO, "0100000;L;CAMINO;Camino de tierra"),                    // 2
+    (CATALOGO, "0200000;P;POZO;"),                                      // 3
+    (CATALOGO, "0300000;X;ROTULO;NA"),                                  // 4
+    (CATALOGO, "0400000;L;LINDE;Linde de concesión"),                   // 5
+    (CATALOGO, "0400001;T;;Seccion de linde"),                          // 6
+    (CATALOGO, "N.D.;T;ND;Codigo desconocido, pero catalogado"),        // 7
+    (CATALOGO, "0200001;P;MOJON;"),                                     // 8
+    (CATALOGO, "9999999;X;NADIE;Nobody uses this one"),                 // 9
+    (OB_PUN, "1;;10;0200000;Pozo del Norte;4500;1;200;300;999"),        // 1  a Z that isn't its node's
+    (OB_PUN, "2;;;0200001;;;;-999999999;9999999999;"),                  // 2  no node: anywhere
+    (OB_PUN, "3;;6;0200001;Mojón;0;;500;500;"),                         // 3  no Z though its node has one
+    (OB_PUN, "0;;6;0200000;ND;;7;500;500;12"),                          // 4
+    (OB_TEX, "1;;0300000;CAMINO REAL;3;2;9000;5;150;260;33"),           // 1
+    (OB_TEX, "0;;0300000;arriba|abajo;0;;;0;-10;-20;"),                 // 2
+    (OB_TEX, "9999999999;;0300000;;1;;;9;0;0;-1"),                      // 3
+    (OB_LIN, "7;;0100000;Camino Real;150;250;33"),                      // 1
+    (OB_LIN, "3;;0400000;Linde|Norte;-1;2;"),                           // 2
+    (OB_LIN, "1;;0100000;NA;;;"),                                       // 3
+    (OB_LIN, "0;;0400000;;0;0;"),                                       // 4
+    (TRAMO, "1;7;;;0100001;1;2;+"),                                     // 1  line 1, by its own id
+    (TRAMO, "2;7;;20;0100001;2;10;"),                                   // 2  line 20
+    (TRAMO, "5;3;;20;0400001;3;10;-"),                                  // 3  line 20 too
+    (TRAMO, "20;3;;;N.D.;2;10;+"),                                      // 4  line 20, by its own id
+    (TRAMO, "3;1;;3;0100001;10;4;+"),                                   // 5  line 3, given
+    (TRAMO, "0;1;;;0100001;4;0;+"),                                     // 6  line 0, by its own id
+    (TRAMO, "9;0;;;0400001;0;0;"),                                      // 7  line 9, a ring
+    (VERTICE, "3;2;-30;0;"),                                            // 1
+    (VERTICE, "20;11;200;300;"),                                        // 2  order k of line 20 is record 13 - k
+    (VERTICE, "20;10;192;288;"),                                        // 3
+    (VERTICE, "20;9;184;276;"),                                         // 4
+    (VERTICE, "20;8;176;264;"),                                         // 5
+    (VERTICE, "20;7;168;252;"),                                         // 6
+    (VERTICE, "20;6;160;240;"),                                         // 7
+    (VERTICE, "20;5;156;232;"),                                         // 8
+    (VERTICE, "20;4;152;224;"),                                         // 9
+    (VERTICE, "20;3;148;216;"),                                         // 10
+    (VERTICE, "20;2;144;208;"),                                         // 11
+    (VERTICE, "20;1;140;200;"),                                         // 12
+    (VERTICE, "1;2;120;220;"),                                          // 13
+    (VERTICE, "1;1;100;200;50"),                                        // 14
+    (VERTICE, "1;3;140;200;9"),                                         // 15
+    (VERTICE, "0;1;-30;0;"),                                            // 16
+    (VERTICE, "0;2;0;-500;0"),                                          // 17
+    (VERTICE, "9;3;0;-500;"),                                           // 18
+    (VERTICE, "9;1;0;-500;"),                                           // 19
+    (VERTICE, "9;2;5;-505;-3"),                                         // 20
+    (VERTICE, "3;1;200;300;"),                                          // 21
+    (NODO, "1;E;100;200;50"),                                           // 1
+    (NODO, "2;E;140;200;"),                                             // 2
+    (NODO, "3;E;140;200;7"),                                            // 3  node 2's X and Y, another Z
+    (NODO, "10;E;200;300;-5"),                                          // 4
+    (NODO, "4;;-30;0;"),                                                // 5
+    (NODO, "0;C;0;-500;0"),                                             // 6
+    (NODO, "6;A;500;500;12"),                                           // 7  stands alone, points 3 and 0 name it
+    (NODO, "8;I;160;240;"),                                             // 8  at order 6 of line 20, ends nothing
+];
+
+/// S's line.
+pub(super) const S_OK: &str = "OK 00002 00000 00000 00001 00001 00002 00002";
+
+/// The richer delivery's line.
+pub(super) const RICH_OK: &str = "OK 00009 00004 00003 00004 00007 00021 00008";

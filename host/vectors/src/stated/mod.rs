@@ -1,0 +1,97 @@
+//! Deliveries stated by hand, from document 01, each with the line that it
+//! should give and what was damaged beside it.
+//!
+//! Names: `s`, `ejemplo-10-2`, `case-01` to `case-13` as document 01 and source
+//! 000 say; `rich`, the lawful delivery that most others damage; `rNN-..`,
+//! refused with reason NN first; `ok-..`, near misses that stay accepted.
+//!
+//! Fields by number, for reading the damage; a place is the six fields sign, X,
+//! sign, Y, sign, Z:
+//!
+//! | | |
+//! |---|---|
+//! | CATALOGO | 1 CODIGO, 2 TIPO, 3 NOMBRE_C, 4 DEFINICI |
+//! | OB_PUN | 1 id, 2 composite, 3 node, 4 CODIGO, 5 name, 6 orientation, 7 M, 8 to 13 place |
+//! | OB_TEX | 1 id, 2 composite, 3 CODIGO, 4 LITERAL, 5 height, 6 width, 7 orientation, 8 justification, 9 to 14 place |
+//! | OB_LIN | 1 id, 2 composite, 3 CODIGO, 4 name, 5 to 10 centroid |
+//! | TRAMO | 1 id, 2 linear object, 3 perimeter, 4 line, 5 CODIGO, 6 start, 7 end, 8 sense |
+//! | VERTICE | 1 line, 2 order, 3 to 8 place |
+//! | NODO | 1 id, 2 TIPO, 3 to 8 place |
+
+mod bases;
+mod cases;
+mod fields;
+mod keys;
+mod near;
+mod shape;
+mod topology;
+
+use crate::draft::{Draft, Rows};
+use bases::{RICH, S};
+use deliveries::{Files, VERTICE};
+
+/// A delivery and the line that it should give, without its line feed.
+pub struct Stated {
+    pub name: &'static str,
+    pub line: &'static str,
+    pub files: Files,
+}
+
+/// All of them, in the order of their reasons.
+pub fn stated() -> Vec<Stated> {
+    let groups = [
+        cases::cases(),
+        shape::reason_10(),
+        shape::reason_11(),
+        shape::reason_20(),
+        shape::reason_21(),
+        fields::reason_22(),
+        fields::reason_23(),
+        fields::reason_24(),
+        fields::reason_25(),
+        keys::reason_30(),
+        keys::reason_40(),
+        keys::reason_41(),
+        topology::reason_50(),
+        topology::reason_51(),
+        topology::reason_52(),
+        topology::reason_53(),
+        topology::reason_54(),
+        topology::reason_55(),
+        topology::reason_56(),
+        topology::reason_57(),
+        near::near_misses(),
+    ];
+    groups.into_iter().flatten().collect()
+}
+
+/// S with a damage.
+fn s(name: &'static str, line: &'static str, damage: fn(&mut Draft)) -> Stated {
+    Stated::over(S, name, line, damage)
+}
+
+/// The richer delivery with a damage.
+fn rich(name: &'static str, line: &'static str, damage: fn(&mut Draft)) -> Stated {
+    Stated::over(RICH, name, line, damage)
+}
+
+impl Stated {
+    fn over(rows: &Rows, name: &'static str, line: &'static str, damage: fn(&mut Draft)) -> Stated {
+        let mut draft = Draft::new(rows);
+        damage(&mut draft);
+        Stated {
+            name,
+            line,
+            files: draft.files(),
+        }
+    }
+}
+
+/// The richer delivery's vertices of line 20 in the order 1, 10, 11, 2, 3 to 9,
+/// where they stand in the file.
+fn sort_line_20_as_text(d: &mut Draft) {
+    let by_order: Vec<Vec<u8>> = d.records[VERTICE].drain(1..12).rev().collect();
+    let as_text =
+        [1, 10, 11, 2, 3, 4, 5, 6, 7, 8, 9].map(|order: usize| by_order[order - 1].clone());
+    d.records[VERTICE].splice(1..1, as_text);
+}

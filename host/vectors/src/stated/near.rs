@@ -1,0 +1,219 @@
+//! Near misses that stay accepted.
+
+use super::bases::{RICH_OK, S_OK};
+use super::{rich, s, sort_line_20_as_text, Stated};
+use deliveries::{CATALOGO, NODO, OB_LIN, OB_PUN, OB_TEX, TRAMO, VERTICE};
+
+pub(super) fn near_misses() -> Vec<Stated> {
+    vec![
+        rich("ok-equal-ids-in-different-files", RICH_OK, |d| {
+            // point 2 becomes 10 like node 10, text 1 becomes 6 like node 6
+            d.num(OB_PUN, 2, 1, 10);
+            d.num(OB_TEX, 1, 1, 6);
+        }),
+        s("ok-id-0-everywhere", S_OK, |d| {
+            d.num(OB_LIN, 1, 1, 0);
+            d.num(TRAMO, 1, 1, 0);
+            d.num(TRAMO, 1, 2, 0);
+            d.num(TRAMO, 1, 6, 0);
+            d.num(VERTICE, 1, 1, 0);
+            d.num(VERTICE, 2, 1, 0);
+            d.num(NODO, 1, 1, 0);
+        }),
+        s("ok-highest-ids", S_OK, |d| {
+            let top = 9_999_999_999;
+            d.num(OB_LIN, 1, 1, top);
+            d.num(TRAMO, 1, 1, top);
+            d.num(TRAMO, 1, 2, top);
+            d.num(TRAMO, 1, 7, top);
+            d.num(VERTICE, 1, 1, top);
+            d.num(VERTICE, 2, 1, top);
+            d.num(NODO, 2, 1, top);
+        }),
+        s(
+            "ok-code-that-nobody-uses",
+            "OK 00004 00000 00000 00001 00001 00002 00002",
+            |d| {
+                d.add(CATALOGO, "0100002;P;;");
+                d.add(CATALOGO, "NAD;X;;");
+            },
+        ),
+        s(
+            "ok-catalogue-alone",
+            "OK 00002 00000 00000 00000 00000 00000 00000",
+            |d| {
+                for file in [OB_LIN, TRAMO, VERTICE, NODO] {
+                    d.records[file].clear();
+                }
+            },
+        ),
+        rich("ok-codes-that-look-missing", RICH_OK, |d| {
+            // na, and N with a blank inside, are codes like others
+            d.text(CATALOGO, 7, 1, b"na");
+            d.text(TRAMO, 4, 5, b"na");
+            d.text(CATALOGO, 4, 1, b"N D");
+            for record in 1..=3 {
+                d.text(OB_TEX, record, 3, b"N D");
+            }
+        }),
+        rich(
+            "ok-nodes-at-one-place-by-z",
+            "OK 00009 00004 00003 00004 00007 00021 00011",
+            |d| {
+                // at node 2's X and Y: Z 0, -7 and 8 besides 7 and none
+                d.add(NODO, "30;;140;200;0");
+                d.add(NODO, "31;;140;200;-7");
+                d.add(NODO, "32;;140;200;8");
+            },
+        ),
+        rich("ok-z-0-isnt-a-missing-z", RICH_OK, |d| {
+            d.num(NODO, 3, 8, 0);
+        }),
+        rich("ok-bars-in-texts", RICH_OK, |d| {
+            d.text(CATALOGO, 1, 3, b"|");
+            d.text(CATALOGO, 1, 4, &[b'|'; 60]);
+            d.text(OB_PUN, 1, 5, b"Pozo|del|Norte");
+            d.text(OB_TEX, 1, 4, b"|CAMINO|REAL|");
+            d.text(OB_LIN, 1, 4, b"Camino|Real");
+        }),
+        rich("ok-bars-for-code-and-node-type", RICH_OK, |d| {
+            d.text(CATALOGO, 7, 1, b"|||||||");
+            d.text(TRAMO, 4, 5, b"|||||||");
+            d.put(NODO, 1, 2, b"|");
+        }),
+        s(
+            "ok-orders-10-and-2-the-wrong-way-round",
+            "OK 00002 00000 00000 00001 00001 00010 00002",
+            |d| {
+                // line 1 with ten vertices, 10 first in the file and 2 last
+                d.records[VERTICE].swap(0, 1);
+                d.num(VERTICE, 1, 2, 10);
+                for order in (2..10).rev() {
+                    d.add(VERTICE, &format!("1;{order};{};200;", 100 + 4 * order));
+                }
+            },
+        ),
+        rich("ok-10-stands-before-2-in-the-file", RICH_OK, |d| {
+            // The story: a converter sorted line 20 by unpadded text (1, 10, 11, 2, 3 ...
+            // 9) and left the order numbers alone. Only the order number counts.
+            sort_line_20_as_text(d);
+        }),
+        rich("ok-every-file-turned-round", RICH_OK, |d| {
+            for records in &mut d.records {
+                records.reverse();
+            }
+        }),
+        s("ok-negative-coordinates", S_OK, |d| {
+            for file in [VERTICE, NODO] {
+                d.place(file, 1, -100, -200, None);
+                d.place(file, 2, -999_999_999, -9_999_999_999, Some(-99_999_999));
+            }
+        }),
+        rich("ok-z-missing-at-one-end", RICH_OK, |d| {
+            // vertex 1 of line 1 loses its Z, node 1 keeps 50; node 2 has none, its
+            // vertex has 9 already
+            d.blank(VERTICE, 14, &[7, 8]);
+        }),
+        rich("ok-z-differs-at-an-end-and-at-a-point", RICH_OK, |d| {
+            d.num(VERTICE, 14, 8, 51);
+            d.num(OB_PUN, 4, 13, 13);
+        }),
+        rich("ok-sense-the-other-way", RICH_OK, |d| {
+            d.put(TRAMO, 1, 8, b"-");
+            d.put(TRAMO, 3, 8, b"+");
+        }),
+        rich("ok-blank-line-filled-with-own-id", RICH_OK, |d| {
+            d.num(TRAMO, 1, 4, 1);
+            d.num(TRAMO, 7, 4, 9);
+        }),
+        rich("ok-line-given-by-own-id-blanked", RICH_OK, |d| {
+            d.blank(TRAMO, 5, &[4]);
+        }),
+        rich("ok-all-that-may-be-missing-is", RICH_OK, |d| {
+            for record in 1..=9 {
+                d.blank(CATALOGO, record, &[3, 4]);
+            }
+            for record in 1..=4 {
+                d.blank(OB_PUN, record, &[5, 6, 7, 12, 13]);
+                d.blank(OB_LIN, record, &[4, 5, 6, 7, 8, 9, 10]);
+            }
+            for record in 1..=3 {
+                d.blank(OB_TEX, record, &[4, 6, 7, 13, 14]);
+            }
+            for record in 1..=7 {
+                d.blank(TRAMO, record, &[8]);
+            }
+            for record in 1..=21 {
+                d.blank(VERTICE, record, &[7, 8]);
+            }
+            for record in 1..=8 {
+                d.blank(NODO, record, &[2]);
+                // node 3 needs its Z: node 2 stands there too
+                if record != 3 {
+                    d.blank(NODO, record, &[7, 8]);
+                }
+            }
+        }),
+        rich("ok-no-break-blanks-in-texts", RICH_OK, |d| {
+            d.put(OB_PUN, 1, 5, &[0xa0; 60]);
+            d.text(OB_LIN, 1, 4, b"\xa0Camino\xa0");
+            d.put(NODO, 1, 2, b"\xa0");
+        }),
+        rich("ok-highest-bytes-in-texts", RICH_OK, |d| {
+            d.text(OB_PUN, 1, 5, b"\xa0\xff~!");
+            d.put(NODO, 4, 2, b"\xff");
+        }),
+        rich("ok-any-digits-in-m-and-justification", RICH_OK, |d| {
+            d.num(OB_PUN, 1, 6, 99999);
+            d.num(OB_PUN, 1, 7, 999);
+            d.num(OB_TEX, 1, 5, 0);
+            d.num(OB_TEX, 1, 7, 36000);
+            d.num(OB_TEX, 1, 8, 0);
+        }),
+        rich("ok-one-of-two-points-names-the-node", RICH_OK, |d| {
+            d.blank(OB_PUN, 4, &[3]);
+            d.num(OB_PUN, 4, 9, 7);
+        }),
+        rich("ok-node-on-a-middle-vertex-with-another-z", RICH_OK, |d| {
+            d.put(NODO, 8, 7, b"-");
+            d.num(NODO, 8, 8, 1);
+        }),
+        rich("ok-texts-and-centroids-anywhere", RICH_OK, |d| {
+            d.place(OB_TEX, 1, -1, -1, Some(-1));
+            d.place(OB_LIN, 1, 999999999, -9999999999, Some(0));
+        }),
+        rich("ok-vertices-of-one-line-at-one-place", RICH_OK, |d| {
+            // line 9 shrinks to a point
+            d.place(VERTICE, 20, 0, -500, None);
+        }),
+        s(
+            "ok-line-of-two-vertices-at-one-place",
+            "OK 00002 00000 00000 00001 00001 00002 00001",
+            |d| {
+                d.place(VERTICE, 2, 100, 200, None);
+                d.num(TRAMO, 1, 7, 1);
+                d.lose(NODO, &[2]);
+            },
+        ),
+        rich("ok-tramo-id-of-a-line-it-doesnt-use", RICH_OK, |d| {
+            // tramos 0 and 9 exchange lines by naming them, and their nodes with them
+            d.num(TRAMO, 6, 4, 9);
+            d.num(TRAMO, 6, 6, 0);
+            d.num(TRAMO, 6, 7, 0);
+            d.num(TRAMO, 7, 4, 0);
+            d.num(TRAMO, 7, 6, 4);
+            d.num(TRAMO, 7, 7, 0);
+        }),
+        rich(
+            "ok-points-texts-and-nodes-without-lines",
+            "OK 00009 00004 00003 00000 00000 00000 00002",
+            |d| {
+                for file in [OB_LIN, TRAMO, VERTICE] {
+                    d.records[file].clear();
+                }
+                // nodes 10 and 6 are named by points
+                d.lose(NODO, &[1, 2, 3, 5, 6, 8]);
+            },
+        ),
+    ]
+}

@@ -1,0 +1,96 @@
+//! What is stored is what the program makes, and covers what it should.
+
+use std::collections::{BTreeMap, BTreeSet};
+use std::fs;
+use std::path::{Path, PathBuf};
+use vectors::{folder, judged, line, stated, vectors, Stated, Stored, ROOM};
+
+const MAKE: &str = "cargo run -p vectors --manifest-path host/Cargo.toml writes it";
+
+fn root() -> PathBuf {
+    Path::new(env!("CARGO_MANIFEST_DIR")).join("../..")
+}
+
+/// The bytes themselves are too many to print.
+fn is_stored((path, bytes): Stored) {
+    let stored = fs::read(root().join(&path)).unwrap_or_default();
+    assert!(stored == bytes, "{} is another: {MAKE}", path.display());
+}
+
+#[test]
+fn the_programs_vectors_are_stored() {
+    vectors().into_iter().for_each(is_stored);
+}
+
+#[test]
+fn each_folder_of_samples_is_stored() {
+    let by_name: BTreeMap<_, _> = stated().into_iter().map(|s| (s.name, s)).collect();
+    let mut files = 0;
+    for entry in fs::read_dir(root().join("samples")).unwrap() {
+        let path = entry.unwrap().path();
+        let name = path.file_name().unwrap().to_str().unwrap();
+        let sample = by_name
+            .get(name)
+            .unwrap_or_else(|| panic!("{name} isn't stated"));
+        let made = folder(sample);
+        assert_eq!(
+            made.len(),
+            fs::read_dir(&path).unwrap().count(),
+            "{name}: {MAKE}"
+        );
+        files += made.len();
+        made.into_iter().for_each(is_stored);
+    }
+    assert!(files > 0, "there are no samples");
+}
+
+/// How a sample's name says that its line begins.
+fn promised(name: &str) -> String {
+    let first = name.split('-').next().unwrap_or("");
+    match first.strip_prefix('r').map(str::parse::<u8>) {
+        Some(Ok(reason)) => format!("NO {reason}"),
+        _ if first == "ok" => "OK".to_string(),
+        _ => String::new(),
+    }
+}
+
+#[test]
+fn the_independent_checker_says_what_was_stated_by_hand() {
+    let mut names = BTreeSet::new();
+    for Stated { name, line, files } in stated() {
+        assert!(names.insert(name), "{name} is stated twice");
+        assert_eq!(vectors::line(&files), format!("{line}\n"), "{name}");
+        assert!(line.starts_with(&promised(name)), "{name}: {line}");
+    }
+}
+
+#[test]
+fn records_are_written_as_the_documents_print_them() {
+    let files = |name| stated().into_iter().find(|s| s.name == name).unwrap().files;
+    // document 01 prints node 1 of S
+    let node = b"0000000001| |+|000000100|+|0000000200| |        \r\n";
+    assert!(files("s")[6].starts_with(node));
+    // source 000's example 10.2 has its files' sizes in its metadata (lines 3154 to 3201)
+    let sizes = files("ejemplo-10-2").map(|bytes| bytes.len());
+    assert_eq!(sizes, [931, 298, 144, 512, 462, 864, 300]);
+}
+
+#[test]
+fn every_reason_comes_up_and_all_fits_the_programs_room() {
+    let lines: Vec<String> = judged().iter().map(line).collect();
+    let told = |start: &str| lines.iter().filter(|line| line.starts_with(start)).count();
+    // 59 can't come first: the reference to a line without a vertex is 40
+    for reason in [
+        10, 11, 20, 21, 22, 23, 24, 25, 30, 40, 41, 50, 51, 52, 53, 54, 55, 56, 57,
+    ] {
+        assert!(
+            told(&format!("NO {reason}")) > 0,
+            "reason {reason} never came up"
+        );
+    }
+    println!("{} deliveries, {} accepted", lines.len(), told("OK"));
+    assert!(lines.len() >= 369 && told("OK") >= 90);
+    let [(_, stdin), _] = vectors();
+    println!("{} of {ROOM} bytes", stdin.len());
+    assert!(stdin.len() <= ROOM);
+}
