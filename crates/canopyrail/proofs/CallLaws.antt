@@ -2,20 +2,20 @@
 -- Assumes nothing.
 use Prim.Native.Nat.{ℕ, zero, suc, _+_, _*_, _-_, _<_, _≤_}
 use mathlib.Core.Bool.{Bool, true, false, not, _&&_}
-use mathlib.Core.List.{List, [], _∷_, _++_, append-assoc}
-use mathlib.Core.Path.{_≡_, refl, sym, ap, ap₂, _∙_, subst}
+use mathlib.Core.List.{List, [], _∷_, _++_, map, append-assoc}
+use mathlib.Core.Path.{_≡_, refl, sym, ap, ap₂, fun-ext, _∙_, subst}
 use native.Mathlib.Numerals.{add-one}
 use native.Mathlib.Omega.{arith}
 use lib.Dec.{eqb, ltb}
 use borrow.Author.Tests.{ltb-true, ltb-false, not-true}
 use lib.IntN.{ℤ, pos}
-use lib.ListN.{length, getD, take, drop, set, length-set, take-append-drop, length-append}
+use lib.ListN.{length, getD, take, drop, set, length-set, take-append-drop, length-append, length-map}
 use lib.Seq.{drop-set-lt, drop-drop, take-length, take-at, length-take-le}
 use types.Run.{OneOf, miss}
 use denote.Enum.Declared.{tagOf}
 use borrow.Rule.Slice.PartMut.{putMid, midOf, same-len-mid, mid-len, drop-put}
 use Rattle.laws.specs.Row.{row}
-use Rattle.laws.proofs.RowLaws.{row-start, row-more, and-true}
+use Rattle.laws.proofs.RowLaws.{row-start, row-more, row-end, row-at, and-true}
 use Rattle.field.specs.Texts.{padded, firstBytes}
 use Rattle.field.proofs.TextLaws.{first-bytes-le}
 use Rattle.record.specs.declared.kind.Kind.{Kind}
@@ -26,7 +26,9 @@ use Rattle.record.specs.declared.reason.Reason.{Reason}
 use Rattle.record.specs.declared.reason.Reason.the-variants as R
 use Rattle.record.specs.declared.reason.Reason.the-variants.{ShortRoom61}
 use Rattle.record.specs.declared.reason.Break.{Break}
+use Rattle.record.specs.Files.{filesOf}
 use Rattle.record.specs.Breaks.{numberOf}
+use Rattle.record.proofs.TableLaws.{sane}
 use Rattle.codec.specs.declared.values.Value.{Value}
 use Rattle.codec.specs.declared.values.Values.{Values}
 use Rattle.codec.specs.declared.values.Answer.{Answer}
@@ -34,8 +36,30 @@ use Rattle.codec.specs.Values.{valueAt}
 use Rattle.codec.specs.declared.values.Answer.the-variants.{Done, Refused}
 use Rattle.codec.specs.declared.values.Reading.{Reading}
 use Rattle.codec.specs.Calls.{Writes, readOf}
-use Rattle.canopyrail.specs.Answers.{otherOf, wordOf, breakWord, refusalWord, answerWord, onFile}
+use Rattle.judge.specs.Verdict.{judged}
+use Rattle.judge.proofs.Cases.{no-files}
+use Rattle.canopyrail.specs.Answers.{otherOf, wordOf, breakWord, findingWord, refusalWord, answerWord, onFile}
 use Rattle.canopyrail.specs.Lent.{strung, lentLength, Holds, lentValue, WritesLent, roomy, readAnswer, Reads}
+
+-- FILES, made place by place of a list of them: the loop's invariant is of their bytes
+map-set : {A B : Type 0} (f : A → B) (l : List A) (i : ℕ) (x : A) → map f (set l i x) ≡ set (map f l) i (f x)
+map-set f [] i x = refl
+map-set f (y ∷ l) zero x = refl
+map-set {B = B} f (y ∷ l) (suc i) x = ap (λ (zs : List B). f y ∷ zs) (map-set f l i x)
+
+pub files-more : {A B : Type 0} (f : A → B) (g : ℕ → B) (i : ℕ) (l : List A) (x : A) → i < length l → take i (map f l) ≡ row g i → f x ≡ g i
+    → take (i + 1) (map f (set l i x)) ≡ row g (i + 1)
+files-more f g i l x h e q = rw (map-set f l i x) (row-more g i (map f l) (f x) (rw length-map h) e q)
+
+pub files-end : (all files : List (List ℕ)) {n : ℕ} → length all ≡ 7 → n ≤ 7 → 7 ≤ n → take n all ≡ row (λ i. getD files i []) n → filesOf all ≡ filesOf files
+unfolding filesOf
+files-end all files l u v e =
+    fun-ext (λ k. rw (row-end (λ i. getD files i []) all l u v e) (row-at (λ i. getD files i []) 7 [] (omega (arith, sane k))))
+
+-- where there is none, nothing is wrong
+pub none-lent : {A : Type 0} (f : A → List ℕ) (l : List A) → length l ≡ 0 → 0 ≡ findingWord (judged (filesOf (map f l)))
+none-lent f [] e = sym (ap findingWord no-files)
+none-lent f (x ∷ l) e = absurd (omega arith)
 
 -- WHAT A REASON CARRIES: nothing, where it is none of 30, 41 and 54
 abbrev plain : List ℕ

@@ -20,36 +20,19 @@ use Rattle.record.specs.declared.reason.Break.{Break}
 use Rattle.record.specs.declared.reason.Finding.{Finding}
 use Rattle.record.specs.declared.reason.Finding.the-variants.{Broken}
 use Rattle.record.specs.Table.{fieldsOf, fileOf, lengthOf, limit}
+use Rattle.record.specs.Files.{Files}
 use Rattle.record.specs.Cut.{countOf}
 use Rattle.record.specs.Rules.{breaks10, twenties}
 use Rattle.record.specs.Breaks.{shapeTests}
 use Rattle.record.specs.Claims.{there, testsAt, broken}
+use Rattle.record.proofs.TableLaws.{sane}
 use Rattle.keys.specs.Delivery.{deliveryOf}
 use Rattle.keys.specs.Groups.{brokenBy}
 use Rattle.keys.specs.Findings.{keysBroken}
 use Rattle.topology.specs.Findings.{topologyBroken}
-use Rattle.judge.specs.Verdict.{Files, judged}
+use Rattle.judge.specs.Verdict.{judged}
 use Rattle.judge.specs.Broken.{isBroken, placeAt, First, Judges}
 use Rattle.judge.proofs.Exact.{exact}
-
--- THE KINDS
-file-small : (k : Kind) → fileOf k ≤ 7
-file-small Catalogo = omega arith
-file-small ObPun = omega arith
-file-small ObTex = omega arith
-file-small ObLin = omega arith
-file-small Tramo = omega arith
-file-small Vertice = omega arith
-file-small Nodo = omega arith
-
-fields-small : (k : Kind) → fieldsOf k ≤ 14
-fields-small Catalogo = omega arith
-fields-small ObPun = omega arith
-fields-small ObTex = omega arith
-fields-small ObLin = omega arith
-fields-small Tramo = omega arith
-fields-small Vertice = omega arith
-fields-small Nodo = omega arith
 
 -- a file that is not too long has at most 16,384 records
 count-small : (s : List ℕ) (k : Kind) → breaks10 s k ≡ false → countOf s k ≤ 16384
@@ -83,7 +66,7 @@ module _ (s : List ℕ) (k : Kind) (n i f : ℕ) where
       go true q h =
           let p = and-true (leb 1 i && leb i (countOf s k)) (leb f (fieldsOf k)) q in
           let r = and-true (leb 1 i) (leb i (countOf s k)) (p .0) in
-          (omega (arith, leb-true i (countOf s k) (r .1)), omega (arith, leb-true f (fieldsOf k) (p .1), fields-small k))
+          (omega (arith, leb-true i (countOf s k) (r .1)), omega (arith, leb-true f (fieldsOf k) (p .1), sane k .few))
       go false q h = absurd (true-false (sym h))
 
 -- of the higher tens, whose tables have at most 16,384 records
@@ -93,7 +76,7 @@ by-where tests k m n i f l e =
     let p = and-true (leb 1 i && leb i m && leb f (fieldsOf k)) (getD (tests (n / 10) (i - 1) f) (n % 10) false) e in
     let q = and-true (leb 1 i && leb i m) (leb f (fieldsOf k)) (p .0) in
     let r = and-true (leb 1 i) (leb i m) (q .0) in
-    (omega (arith, leb-true i m (r .1)), omega (arith, leb-true f (fieldsOf k) (q .1), fields-small k))
+    (omega (arith, leb-true i m (r .1)), omega (arith, leb-true f (fieldsOf k) (q .1), sane k .few))
 
 -- of any reason: the shape's and the fields' by the file's own count, the others' by the table's
 module _ (files : Files) (n : ℕ) (k : Kind) (i f : ℕ) where
@@ -190,7 +173,7 @@ place-fits files b e = go (subst (Judges files) e (exact files))
     go w =
         let p = broken-where files (w .n) (w .k) (w .i) (w .f) (w .really) in
         let s = w .shown in (
-          rw (ap (λ (x : Break). x .file) s) (file-small (w .k)),
+          rw (ap (λ (x : Break). x .file) s) (sane (w .k) .last),
           rw (ap (λ (x : Break). x .«record») s) (record-small files (w .n) (w .k) (w .i) (w .f) (w .really) (w .least)),
           rw (ap (λ (x : Break). x .field) s) (p .1),
         )

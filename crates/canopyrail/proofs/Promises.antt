@@ -6,8 +6,9 @@ use native.Mathlib.Omega.{arith}
 use Rattle.record.specs.declared.reason.Break.{Break}
 use Rattle.record.specs.declared.reason.Finding.{Finding}
 use Rattle.record.specs.declared.reason.Finding.the-variants.{Fine, Broken}
+use Rattle.record.specs.Files.{Files}
 use Rattle.record.specs.Breaks.{numberOf}
-use Rattle.judge.specs.Verdict.{Files, judged}
+use Rattle.judge.specs.Verdict.{judged}
 use Rattle.canopyrail.specs.Answers.{wordOf, breakWord, findingWord, reasonIn, fileIn, recordIn, fieldIn}
 use Rattle.canopyrail.proofs.CallLaws.{break-told}
 use Rattle.canopyrail.proofs.Fits.{place-fits}

@@ -2,31 +2,52 @@
 use crate::answer::finding_word;
 use judge::judge::judge;
 use record::cut::records;
+use record::kind::FILES;
 use record::kind::Which;
 use record::kind::kind_of;
 ghost use mathlib.Core.Path.{_≡_};
-ghost use mathlib.Core.List.{List};
+ghost use mathlib.Core.List.{List, [], map};
 ghost use Prim.Native.Nat.{ℕ};
+ghost use lib.ListN.{getD};
 ghost use Rattle.record.specs.Table.{whichOf};
+ghost use Rattle.record.specs.Files.{filesOf};
 ghost use Rattle.record.specs.Cut.{countOf};
-ghost use Rattle.keys.specs.Delivery.{filesOf};
 ghost use Rattle.judge.specs.Verdict.{judged};
 ghost use Rattle.canopyrail.specs.Answers.{findingWord, onFile};
 
-// Judges seven files in any state; an absent one is empty.
-#[no_mangle]
-pub extern "C" fn canopyrail_judge<'a>(
-    catalogo: &'a [u8],
-    ob_pun: &'a [u8],
-    ob_tex: &'a [u8],
-    ob_lin: &'a [u8],
-    tramo: &'a [u8],
-    vertice: &'a [u8],
-    nodo: &'a [u8],
-) -> u64
-    ensures { λ r. ⌜ r ≡ findingWord (judged (filesOf (now (catalogo .entry)) (now («ob_pun» .entry)) (now («ob_tex» .entry)) (now («ob_lin» .entry)) (now (tramo .entry)) (now (vertice .entry)) (now (nodo .entry)))) ⌝ }
+// The n-th file, and an empty one where there is none. (No empty slice is made of nothing: it is a part of one that is there.)
+fn file_at<'a, 'b>(files: &'b [&'a [u8]], spare: &'a [u8], n: usize) -> &'a [u8]
+    ensures { λ r. ⌜ now r ≡ getD (map now (now (files .entry))) n [] ⌝ }
 {
-    let v = judge(catalogo, ob_pun, ob_tex, ob_lin, tramo, vertice, nodo);
+    if n < files.len() {
+        files[n]
+    } else {
+        &spare[..0]
+    }
+}
+
+// A file for each kind: those past the last kind are not looked at.
+fn first_files<'a, 'b>(files: &'b [&'a [u8]], spare: &'a [u8]) -> [&'a [u8]; FILES]
+    ensures { λ r. ⌜ filesOf (map now r) ≡ filesOf (map now (now (files .entry))) ⌝ }
+{
+    let mut all = [spare; FILES];
+    let mut n = 0;
+    while n < FILES {
+        all[n] = file_at(files, spare, n);
+        n += 1;
+    }
+    all
+}
+
+// Judges the files of a delivery, in any state, in the order of their numbers. An absent one is empty, and so are those past the end.
+#[no_mangle]
+pub extern "C" fn canopyrail_judge<'a, 'b>(files: &'b [&'a [u8]]) -> u64
+    ensures { λ r. ⌜ r ≡ findingWord (judged (filesOf (map now (now (files .entry))))) ⌝ }
+{
+    if files.len() == 0 {
+        return 0;
+    }
+    let v = judge(first_files(files, files[0]));
     let finding = v.finding;
     finding_word(finding)
 }

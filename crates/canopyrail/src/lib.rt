@@ -4,3 +4,4 @@ pub mod answer;
 pub mod delivery;
 pub mod one;
 pub mod table;
+pub mod version;

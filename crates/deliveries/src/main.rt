@@ -5,9 +5,10 @@ use judge::line::line_of;
 use libc::STDIN_FILENO;
 use libc::STDOUT_FILENO;
 use record::cut::part;
+use record::kind::FILES;
 ghost use mathlib.Core.Path.{_≡_};
 ghost use lib.ListN.{length};
-ghost use Prim.Native.Nat.{_+_, _^_, _<_, _≤_};
+ghost use Prim.Native.Nat.{_+_, _*_, _^_, _<_, _≤_};
 
 // A number that was read, and the place after the byte that ends it.
 struct Length {
@@ -44,18 +45,26 @@ fn length_at(s: &[u8], at: usize) -> Length
     Length { n, next: at + i }
 }
 
-fn say_verdict<'a>(
-    catalogo: &'a [u8],
-    ob_pun: &'a [u8],
-    ob_tex: &'a [u8],
-    ob_lin: &'a [u8],
-    tramo: &'a [u8],
-    vertice: &'a [u8],
-    nodo: &'a [u8],
-) {
-    let line = line_of(judge(catalogo, ob_pun, ob_tex, ob_lin, tramo, vertice, nodo));
+fn say_verdict<'a>(files: [&'a [u8]; FILES]) {
+    let line = line_of(judge(files));
     let bytes = line.bytes;
     io::write_all(STDOUT_FILENO, part(&bytes, 0, line.len));
+}
+
+// The place after the lengths at a place.
+fn after_lengths(s: &[u8], at: usize) -> usize
+    requires { ⌜ at < 2 ^ 31 ⌝ }
+    ensures later { λ r. ⌜ at < r ⌝ }
+    ensures near { λ r. ⌜ r ≤ at + 8 * 7 ⌝ }
+{
+    let mut next = at;
+    let mut n = 0;
+    while n < FILES {
+        let length = length_at(s, next);
+        next = length.next;
+        n += 1;
+    }
+    next
 }
 
 // Judges the delivery at a place and answers the place after it.
@@ -63,31 +72,20 @@ fn judge_at(s: &[u8], at: usize) -> usize
     requires { ⌜ at < 2 ^ 31 ⌝ }
     ensures { λ r. ⌜ at < r ⌝ }
 {
-    let a = length_at(s, at);
-    let b = length_at(s, a.next);
-    let c = length_at(s, b.next);
-    let d = length_at(s, c.next);
-    let e = length_at(s, d.next);
-    let f = length_at(s, e.next);
-    let g = length_at(s, f.next);
-    let to_a = g.next;
-    let to_b = to_a + a.n;
-    let to_c = to_b + b.n;
-    let to_d = to_c + c.n;
-    let to_e = to_d + d.n;
-    let to_f = to_e + e.n;
-    let to_g = to_f + f.n;
-    let end = to_g + g.n;
-    say_verdict(
-        part(s, to_a, a.n),
-        part(s, to_b, b.n),
-        part(s, to_c, c.n),
-        part(s, to_d, d.n),
-        part(s, to_e, e.n),
-        part(s, to_f, f.n),
-        part(s, to_g, g.n),
-    );
-    end
+    let mut from = after_lengths(s, at);
+    let mut files = [s; FILES];
+    let mut next = at;
+    let mut n = 0;
+    while n < FILES {
+        let length = length_at(s, next);
+        let len = length.n;
+        files[n] = part(s, from, len);
+        from += len;
+        next = length.next;
+        n += 1;
+    }
+    say_verdict(files);
+    from
 }
 
 fn judge_all(s: &[u8])

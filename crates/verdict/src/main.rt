@@ -1,14 +1,18 @@
 // The box's program: reads the seven files from the working directory and prints the verdict's one line. An absent file is an empty
 // one. Where a file is there and can't be read whole, no line is printed and the reason goes to standard error.
+use judge::line::BIG;
 use judge::line::program_line;
 use libc::STDOUT_FILENO;
 use record::cut::part;
+use record::kind::FILES;
+
+// One byte more than the program takes is room enough: the line of a file that fills it is BIG, whatever follows.
+const ROOM: usize = BIG + 1;
 
 // Instead of a file's length: it can't be read, which was told on standard error.
-const FAILED: usize = 8194;
+const FAILED: usize = ROOM + 1;
 
-// Reads to the end of the file, or until the room is full, and answers how many bytes it read. A room of one byte more than 8,192 is
-// enough: the line of a file that fills it is BIG, whatever follows.
+// Reads to the end of the file, or until the room is full, and answers how many bytes it read.
 fn load_from(fd: i32, name: &[u8], buf: &mut [u8]) -> usize {
     let mut done = 0;
     while done < buf.len() {
@@ -40,68 +44,49 @@ fn load(name: &[u8], buf: &mut [u8]) -> usize {
     len
 }
 
-fn any_failed(lens: [usize; 7]) -> bool {
-    let mut i = 0;
-    while i < 7 {
-        if lens[i] == FAILED {
-            return true;
-        }
-        i += 1;
-    }
-    false
-}
-
 // Says what is to be said of files that were read: of each its length, and the room that it stands in.
-fn say<'a>(
-    lens: [usize; 7],
-    catalogo: &'a [u8],
-    ob_pun: &'a [u8],
-    ob_tex: &'a [u8],
-    ob_lin: &'a [u8],
-    tramo: &'a [u8],
-    vertice: &'a [u8],
-    nodo: &'a [u8],
-) {
-    if any_failed(lens) {
-        return;
+fn say<'a>(lens: [usize; FILES], rooms: [&'a [u8]; FILES]) {
+    let mut files = rooms;
+    let mut n = 0;
+    while n < FILES {
+        if lens[n] == FAILED {
+            return;
+        }
+        files[n] = part(rooms[n], 0, lens[n]);
+        n += 1;
     }
-    let line = program_line(
-        part(catalogo, 0, lens[0]),
-        part(ob_pun, 0, lens[1]),
-        part(ob_tex, 0, lens[2]),
-        part(ob_lin, 0, lens[3]),
-        part(tramo, 0, lens[4]),
-        part(vertice, 0, lens[5]),
-        part(nodo, 0, lens[6]),
-    );
+    let line = program_line(files);
     let bytes = line.bytes;
     io::write_all(STDOUT_FILENO, part(&bytes, 0, line.len));
 }
 
 fn main() {
-    let mut catalogo = [0u8; 8193];
-    let mut ob_pun = [0u8; 8193];
-    let mut ob_tex = [0u8; 8193];
-    let mut ob_lin = [0u8; 8193];
-    let mut tramo = [0u8; 8193];
-    let mut vertice = [0u8; 8193];
-    let mut nodo = [0u8; 8193];
-    let a = load(b"CATALOGO", &mut catalogo);
-    let b = load(b"OB_PUN", &mut ob_pun);
-    let c = load(b"OB_TEX", &mut ob_tex);
-    let d = load(b"OB_LIN", &mut ob_lin);
-    let e = load(b"TRAMO", &mut tramo);
-    let f = load(b"VERTICE", &mut vertice);
-    let g = load(b"NODO", &mut nodo);
-    let lens = [a, b, c, d, e, f, g];
+    let mut catalogo = [0u8; ROOM];
+    let mut ob_pun = [0u8; ROOM];
+    let mut ob_tex = [0u8; ROOM];
+    let mut ob_lin = [0u8; ROOM];
+    let mut tramo = [0u8; ROOM];
+    let mut vertice = [0u8; ROOM];
+    let mut nodo = [0u8; ROOM];
+    let lens = [
+        load(b"CATALOGO", &mut catalogo),
+        load(b"OB_PUN", &mut ob_pun),
+        load(b"OB_TEX", &mut ob_tex),
+        load(b"OB_LIN", &mut ob_lin),
+        load(b"TRAMO", &mut tramo),
+        load(b"VERTICE", &mut vertice),
+        load(b"NODO", &mut nodo),
+    ];
     say(
         lens,
-        &catalogo,
-        &ob_pun,
-        &ob_tex,
-        &ob_lin,
-        &tramo,
-        &vertice,
-        &nodo,
+        [
+            &catalogo,
+            &ob_pun,
+            &ob_tex,
+            &ob_lin,
+            &tramo,
+            &vertice,
+            &nodo,
+        ],
     );
 }

@@ -1,121 +1,69 @@
--- `deliveries::judge_at` is safe, ends and answers a later place: seven lengths of eight digits leave its sums far below the limit.
+-- `deliveries::judge_at` is safe, ends and answers a later place: lengths of eight digits leave its sums far below the limit.
 -- Assumes nothing.
-use Prim.Native.Nat.{_+_, _^_, _<_}
-use native.Mathlib.Omega.{arith}
+use Prim.Native.Nat.{_+_, _*_, _-_, _^_, _<_, _≤_}
+use mathlib.Core.Path.{_≡_}
+use lib.ListN.{length}
 use borrow.Author.Needs.{needs}
 use Rattle.deliveries.proofs.judge_at.Statement.{statement}
 use Rattle.deliveries.proofs.judge_at.Tie as tie
 
--- what is known once the seven lengths are read
-read : (c : tie.After-length-at7)
-    → (c .before .before .before .before .before .before .before .before .args .at < c .length-at7 .result .next)
-    × (c .length-at7 .result .next + c .before .before .before .before .before .before .length-at .result .n + c .before .before .before .before .before .length-at2 .result .n + c .before .before .before .before .length-at3 .result .n + c .before .before .before .length-at4 .result .n + c .before .before .length-at5 .result .n + c .before .length-at6 .result .n + c .length-at7 .result .n < 2 ^ 63)
-read c =
-    omega (
-      arith,
-      c .before .before .before .before .before .before .before .before .pre,
-      c .before .before .before .before .before .before .length-at .ensures,
-      c .before .before .before .before .before .length-at2 .ensures,
-      c .before .before .before .before .length-at3 .ensures,
-      c .before .before .before .length-at4 .ensures,
-      c .before .before .length-at5 .ensures,
-      c .before .length-at6 .ensures,
-      c .length-at7 .ensures,
-    )
+abbrev Inv-loop : tie.InvT-loop
+Inv-loop s at from₀ files₀ next₀ n₀ from files next n = (n ≤ 7) × (length files ≡ 7) × (next ≤ at + 8 * n) × (at < from) × (from ≤ at + 8 * 7 + 10 ^ 8 * n)
 
-length-at-requires : tie.Need-length-at-requires
+abbrev μ-loop : tie.MeasureT-loop
+μ-loop s at from₀ files₀ next₀ n₀ from files next n = 7 - n
+
+after-lengths-requires : tie.Need-after-lengths-requires Inv-loop μ-loop
+after-lengths-requires c κs = search needs
+
+loop-holds : tie.Need-loop-holds Inv-loop μ-loop
+loop-holds c = search needs
+
+length-at-requires : tie.Need-length-at-requires Inv-loop μ-loop
 length-at-requires c κs = search needs
 
-length-at-requires-2 : tie.Need-length-at-requires-2
-length-at-requires-2 c κs = search needs
-
-length-at-requires-3 : tie.Need-length-at-requires-3
-length-at-requires-3 c κs = search needs
-
-length-at-requires-4 : tie.Need-length-at-requires-4
-length-at-requires-4 c κs = search needs
-
-length-at-requires-5 : tie.Need-length-at-requires-5
-length-at-requires-5 c κs = search needs
-
-length-at-requires-6 : tie.Need-length-at-requires-6
-length-at-requires-6 c κs = search needs
-
-length-at-requires-7 : tie.Need-length-at-requires-7
-length-at-requires-7 c κs = search needs
-
-add-to-b : tie.Need-add-to-b
-add-to-b c = search needs
-
-add-to-c : tie.Need-add-to-c
-add-to-c c = omega (arith, read (c .before .before))
-
-add-to-d : tie.Need-add-to-d
-add-to-d c = omega (arith, read (c .before .before .before))
-
-add-to-e : tie.Need-add-to-e
-add-to-e c = omega (arith, read (c .before .before .before .before))
-
-add-to-f : tie.Need-add-to-f
-add-to-f c = omega (arith, read (c .before .before .before .before .before))
-
-add-to-g : tie.Need-add-to-g
-add-to-g c = omega (arith, read (c .before .before .before .before .before .before))
-
-add-end : tie.Need-add-end
-add-end c = omega (arith, read (c .before .before .before .before .before .before .before))
-
-part-requires : tie.Need-part-requires
+part-requires : tie.Need-part-requires Inv-loop μ-loop
 part-requires c κs = search needs
 
-part-requires-2 : tie.Need-part-requires-2
-part-requires-2 c κs = search needs
+mul-files : tie.Need-mul-files Inv-loop μ-loop
+mul-files c = search needs
 
-part-requires-3 : tie.Need-part-requires-3
-part-requires-3 c κs = search needs
+array-set-from-files : tie.Need-array-set-from-files Inv-loop μ-loop
+array-set-from-files c = search needs
 
-part-requires-4 : tie.Need-part-requires-4
-part-requires-4 c κs = search needs
+add-from : tie.Need-add-from Inv-loop μ-loop
+add-from c = search needs
 
-part-requires-5 : tie.Need-part-requires-5
-part-requires-5 c κs = search needs
+add-n : tie.Need-add-n Inv-loop μ-loop
+add-n c = search needs
 
-part-requires-6 : tie.Need-part-requires-6
-part-requires-6 c κs = search needs
+loop-less : tie.Need-loop-less Inv-loop μ-loop
+loop-less c = search needs
 
-part-requires-7 : tie.Need-part-requires-7
-part-requires-7 c κs = search needs
+loop-again : tie.Need-loop-again Inv-loop μ-loop
+loop-again c = search needs
 
-say-verdict-requires : tie.Need-say-verdict-requires
+say-verdict-requires : tie.Need-say-verdict-requires Inv-loop μ-loop
 say-verdict-requires c κs = search needs
 
-returns : tie.Need-returns
-returns c = omega (arith, read (c .before .before .before .before .before .before .before .before .before .before .before .before .before .before .before))
+returns : tie.Need-returns Inv-loop μ-loop
+returns c = search needs
 
 pub judge-at-spec : {M : Type 1} → statement M
 judge-at-spec =
     tie.close
     (tie.spec
+    Inv-loop
+    μ-loop
+    after-lengths-requires
+    loop-holds
     length-at-requires
-    length-at-requires-2
-    length-at-requires-3
-    length-at-requires-4
-    length-at-requires-5
-    length-at-requires-6
-    length-at-requires-7
-    add-to-b
-    add-to-c
-    add-to-d
-    add-to-e
-    add-to-f
-    add-to-g
-    add-end
     part-requires
-    part-requires-2
-    part-requires-3
-    part-requires-4
-    part-requires-5
-    part-requires-6
-    part-requires-7
+    mul-files
+    array-set-from-files
+    add-from
+    add-n
+    loop-less
+    loop-again
     say-verdict-requires
     returns)

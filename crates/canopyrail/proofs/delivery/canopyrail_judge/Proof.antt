@@ -1,12 +1,24 @@
 -- `canopyrail::delivery::canopyrail_judge` meets its contract.
 -- Assumes nothing.
 use mathlib.Core.Path.{ap, _∙_}
-use Rattle.judge.specs.declared.judge.Verdict.{Verdict}
-use Rattle.judge.specs.Verdict.{verdictOf}
-use Rattle.canopyrail.specs.Answers.{findingWord}
+use denote.Ref.{now}
 use borrow.Author.Needs.{needs}
+use Rattle.record.specs.Files.{Files}
+use Rattle.judge.specs.declared.judge.Verdict.{Verdict}
+use Rattle.judge.specs.Verdict.{judged, verdictOf}
+use Rattle.canopyrail.specs.Answers.{findingWord}
+use Rattle.canopyrail.proofs.CallLaws.{none-lent}
 use Rattle.canopyrail.proofs.delivery.canopyrail_judge.Statement.{statement}
 use Rattle.canopyrail.proofs.delivery.canopyrail_judge.Tie as tie
+
+returns : tie.Need-returns
+returns c = none-lent now (c .before .args .files .now) (c .if1 .taken)
+
+shared-slice-copy-out-first-files : tie.Need-shared-slice-copy-out-first-files
+shared-slice-copy-out-first-files c = search needs
+
+first-files-requires : tie.Need-first-files-requires
+first-files-requires c κs = search needs
 
 judge-requires : tie.Need-judge-requires
 judge-requires c κs = search needs
@@ -14,9 +26,20 @@ judge-requires c κs = search needs
 finding-word-requires : tie.Need-finding-word-requires
 finding-word-requires c κs = search needs
 
-returns : tie.Need-returns
+returns-2 : tie.Need-returns-2
 unfolding verdictOf
-returns c = c .finding-word .ensures ∙ ap (λ (v : Verdict). findingWord (v .finding)) (c .before .judge .ensures)
+returns-2 c =
+    c .finding-word .ensures
+    ∙ ap (λ (v : Verdict). findingWord (v .finding)) (c .before .judge .ensures)
+    ∙ ap (λ (files : Files). findingWord (judged files)) (c .before .before .first-files .ensures)
 
 pub canopyrail-judge-spec : {M : Type 1} → statement M
-canopyrail-judge-spec = tie.close (tie.spec judge-requires finding-word-requires returns)
+canopyrail-judge-spec =
+    tie.close
+    (tie.spec
+    returns
+    shared-slice-copy-out-first-files
+    first-files-requires
+    judge-requires
+    finding-word-requires
+    returns-2)
