@@ -14,6 +14,7 @@ use lib.Seq.{drop-set-lt, drop-drop, take-length, take-at, length-take-le}
 use types.Run.{OneOf, miss}
 use denote.Enum.Declared.{tagOf}
 use borrow.Rule.Slice.PartMut.{putMid, midOf, same-len-mid, mid-len, drop-put}
+use Rattle.record.specs.Table.{onFile, fileCount}
 use Rattle.laws.specs.Row.{row}
 use Rattle.laws.proofs.RowLaws.{row-start, row-more, row-end, row-at, and-true}
 use Rattle.field.specs.Texts.{padded, firstBytes}
@@ -38,7 +39,7 @@ use Rattle.codec.specs.declared.values.Reading.{Reading}
 use Rattle.codec.specs.Calls.{Writes, readOf}
 use Rattle.judge.specs.Verdict.{judged}
 use Rattle.judge.proofs.Cases.{no-files}
-use Rattle.canopyrail.specs.Answers.{otherOf, wordOf, breakWord, findingWord, refusalWord, answerWord, onFile}
+use Rattle.canopyrail.specs.Answers.{otherOf, answerNumber, breakWord, findingWord, refusalWord, answerWord}
 use Rattle.canopyrail.specs.Lent.{strung, lentLength, Holds, lentValue, WritesLent, roomy, readAnswer, Reads}
 
 -- FILES, made place by place of a list of them: the loop's invariant is of their bytes
@@ -51,10 +52,10 @@ pub files-more : {A B : Type 0} (f : A → B) (g : ℕ → B) (i : ℕ) (l : Lis
     → take (i + 1) (map f (set l i x)) ≡ row g (i + 1)
 files-more f g i l x h e q = rw (map-set f l i x) (row-more g i (map f l) (f x) (rw length-map h) e q)
 
-pub files-end : (all files : List (List ℕ)) {n : ℕ} → length all ≡ 7 → n ≤ 7 → 7 ≤ n → take n all ≡ row (λ i. getD files i []) n → filesOf all ≡ filesOf files
+pub files-end : (all files : List (List ℕ)) {n : ℕ} → length all ≡ fileCount → n ≤ fileCount → fileCount ≤ n → take n all ≡ row (λ i. getD files i []) n → filesOf all ≡ filesOf files
 unfolding filesOf
 files-end all files l u v e =
-    fun-ext (λ k. rw (row-end (λ i. getD files i []) all l u v e) (row-at (λ i. getD files i []) 7 [] (omega (arith, sane k))))
+    fun-ext (λ k. rw (row-end (λ i. getD files i []) all l u v e) (row-at (λ i. getD files i []) fileCount [] (omega (arith, sane k))))
 
 -- where there is none, nothing is wrong
 pub none-lent : {A : Type 0} (f : A → List ℕ) (l : List A) → length l ≡ 0 → 0 ≡ findingWord (judged (filesOf (map f l)))
@@ -125,13 +126,13 @@ numbered R.Outside65 = refl
 numbered R.NoSuchRecord66 = refl
 
 pub refusal-told : (reason : Reason) (field : ℕ) → refusalWord reason field ≡ 0 → ⊥
-unfolding refusalWord wordOf
+unfolding refusalWord answerNumber
 refusal-told reason field e =
     let l : 0 < numberOf reason = ltb-true 0 (numberOf reason) (numbered reason) in
     omega arith
 
 pub break-told : (b : Break) → breakWord b ≡ 0 → ⊥
-unfolding breakWord wordOf
+unfolding breakWord answerNumber
 break-told b e =
     let l : 0 < numberOf (b .reason) = ltb-true 0 (numberOf (b .reason)) (numbered (b .reason)) in
     omega arith

@@ -4,7 +4,7 @@ use Prim.Native.Nat.{ℕ, zero, suc, _+_, _*_, _-_, _/_, _%_, _≤_, _<_}
 use mathlib.Core.Bool.{Bool, true, false, _&&_}
 use mathlib.Core.List.{List, [], _∷_}
 use mathlib.Core.Path.{_≡_, refl, sym, ap, subst}
-use native.Mathlib.Nat.{min-le-left, eq-or-lt-of-le}
+use native.Mathlib.Nat.{mul-comm, div-le-of-le-mul, min-le-left, eq-or-lt-of-le}
 use mathlib.Core.Logic.{_⊎_, inl, inr, ⊎-elim}
 use native.Mathlib.Omega.{arith}
 use lib.Dec.{eqb, ltb, leb}
@@ -19,14 +19,13 @@ use Rattle.record.specs.declared.kind.Kind.the-variants.{Catalogo, ObPun, ObTex
 use Rattle.record.specs.declared.reason.Break.{Break}
 use Rattle.record.specs.declared.reason.Finding.{Finding}
 use Rattle.record.specs.declared.reason.Finding.the-variants.{Broken}
-use Rattle.record.specs.Table.{fieldsOf, fileOf, lengthOf, limit}
-use Rattle.record.specs.Files.{Files}
+use Rattle.record.specs.Table.{fieldsOf, fileOf, lengthOf, limit, mostFields, fileCount}
+use Rattle.record.specs.Files.{Files, deliveryOf}
 use Rattle.record.specs.Cut.{countOf}
 use Rattle.record.specs.Rules.{breaks10, twenties}
 use Rattle.record.specs.Breaks.{shapeTests}
 use Rattle.record.specs.Claims.{there, testsAt, broken}
 use Rattle.record.proofs.TableLaws.{sane}
-use Rattle.keys.specs.Delivery.{deliveryOf}
 use Rattle.keys.specs.Groups.{brokenBy}
 use Rattle.keys.specs.Findings.{keysBroken}
 use Rattle.topology.specs.Findings.{topologyBroken}
@@ -35,19 +34,15 @@ use Rattle.judge.specs.Broken.{isBroken, placeAt, First, Judges}
 use Rattle.judge.proofs.Exact.{exact}
 
 -- a file that is not too long has at most 16,384 records
-count-small : (s : List ℕ) (k : Kind) → breaks10 s k ≡ false → countOf s k ≤ 16384
+count-small : (s : List ℕ) (k : Kind) → breaks10 s k ≡ false → countOf s k ≤ limit
 unfolding breaks10 countOf
-count-small s Catalogo e = let l = ltb-false (16384 * 133) (length s) e in omega arith
-count-small s ObPun e = let l = ltb-false (16384 * 149) (length s) e in omega arith
-count-small s ObTex e = let l = ltb-false (16384 * 144) (length s) e in omega arith
-count-small s ObLin e = let l = ltb-false (16384 * 128) (length s) e in omega arith
-count-small s Tramo e = let l = ltb-false (16384 * 77) (length s) e in omega arith
-count-small s Vertice e = let l = ltb-false (16384 * 54) (length s) e in omega arith
-count-small s Nodo e = let l = ltb-false (16384 * 50) (length s) e in omega arith
+count-small s k e =
+    let l = ltb-false (limit * lengthOf k) (length s) e in
+    div-le-of-le-mul (lengthOf k) (rw (mul-comm (lengthOf k) limit) l)
 
 -- WHERE SOMETHING IS BROKEN: the tens of the reason bound the record and the field
 module _ (s : List ℕ) (k : Kind) (n i f : ℕ) where
-  shape-where : (u : ℕ) → getD (pick (eqb f 0) (shapeTests s k i) []) u false ≡ true → (i ≤ countOf s k + 1) × (f ≤ 14)
+  shape-where : (u : ℕ) → getD (pick (eqb f 0) (shapeTests s k i) []) u false ≡ true → (i ≤ countOf s k + 1) × (f ≤ mostFields)
   shape-where u e = go (eqb f 0) refl e
     where
       at : (u : ℕ) → getD (shapeTests s k i) u false ≡ true → i ≤ countOf s k + 1
@@ -55,14 +50,14 @@ module _ (s : List ℕ) (k : Kind) (n i f : ℕ) where
       at (suc zero) h = omega (arith, eqb-true i (countOf s k + 1) (and-true (eqb i (countOf s k + 1)) _ h .0))
       at (suc (suc u)) h = absurd (true-false (sym h))
 
-      go : (b : Bool) → eqb f 0 ≡ b → getD (pick b (shapeTests s k i) []) u false ≡ true → (i ≤ countOf s k + 1) × (f ≤ 14)
+      go : (b : Bool) → eqb f 0 ≡ b → getD (pick b (shapeTests s k i) []) u false ≡ true → (i ≤ countOf s k + 1) × (f ≤ mostFields)
       go true q h = (at u h, omega (arith, eqb-true f 0 q))
       go false q h = absurd (true-false (sym h))
 
-  there-where : (u : ℕ) (ts : List Bool) → getD (pick (there s k i f) ts []) u false ≡ true → (i ≤ countOf s k + 1) × (f ≤ 14)
+  there-where : (u : ℕ) (ts : List Bool) → getD (pick (there s k i f) ts []) u false ≡ true → (i ≤ countOf s k + 1) × (f ≤ mostFields)
   there-where u ts e = go (there s k i f) refl e
     where
-      go : (b : Bool) → there s k i f ≡ b → getD (pick b ts []) u false ≡ true → (i ≤ countOf s k + 1) × (f ≤ 14)
+      go : (b : Bool) → there s k i f ≡ b → getD (pick b ts []) u false ≡ true → (i ≤ countOf s k + 1) × (f ≤ mostFields)
       go true q h =
           let p = and-true (leb 1 i && leb i (countOf s k)) (leb f (fieldsOf k)) q in
           let r = and-true (leb 1 i) (leb i (countOf s k)) (p .0) in
@@ -70,7 +65,7 @@ module _ (s : List ℕ) (k : Kind) (n i f : ℕ) where
       go false q h = absurd (true-false (sym h))
 
 -- of the higher tens, whose tables have at most 16,384 records
-by-where : (tests : ℕ → ℕ → ℕ → List Bool) (k : Kind) (m n i f : ℕ) → m ≤ 16384 → brokenBy tests k m n i f ≡ true → (i ≤ 16384) × (f ≤ 14)
+by-where : (tests : ℕ → ℕ → ℕ → List Bool) (k : Kind) (m n i f : ℕ) → m ≤ limit → brokenBy tests k m n i f ≡ true → (i ≤ limit) × (f ≤ mostFields)
 unfolding brokenBy
 by-where tests k m n i f l e =
     let p = and-true (leb 1 i && leb i m && leb f (fieldsOf k)) (getD (tests (n / 10) (i - 1) f) (n % 10) false) e in
@@ -80,22 +75,22 @@ by-where tests k m n i f l e =
 
 -- of any reason: the shape's and the fields' by the file's own count, the others' by the table's
 module _ (files : Files) (n : ℕ) (k : Kind) (i f : ℕ) where
-  low : (t : ℕ) → n / 10 ≡ suc t → t < 2 → broken (files k) k n i f ≡ true → (i ≤ countOf (files k) k + 1) × (f ≤ 14)
+  low : (t : ℕ) → n / 10 ≡ suc t → t < 2 → broken (files k) k n i f ≡ true → (i ≤ countOf (files k) k + 1) × (f ≤ mostFields)
   unfolding broken testsAt
   low zero q l e = shape-where (files k) k n i f (n % 10) (rw q at e)
   low (suc zero) q l e = there-where (files k) k n i f (n % 10) _ (rw q at e)
   low (suc (suc t)) q l e = absurd (omega arith)
 
-  keys-where : keysBroken (deliveryOf files) k n i f ≡ true → (i ≤ 16384) × (f ≤ 14)
+  keys-where : keysBroken (deliveryOf files) k n i f ≡ true → (i ≤ limit) × (f ≤ mostFields)
   unfolding keysBroken
   keys-where e = by-where _ k (deliveryOf files k .count) n i f (min-le-left limit (countOf (files k) k)) e
 
-  topology-where : topologyBroken (deliveryOf files) k n i f ≡ true → (i ≤ 16384) × (f ≤ 14)
+  topology-where : topologyBroken (deliveryOf files) k n i f ≡ true → (i ≤ limit) × (f ≤ mostFields)
   unfolding topologyBroken
   topology-where e = by-where _ k (deliveryOf files k .count) n i f (min-le-left limit (countOf (files k) k)) e
 
   -- a break is at the file's whole records plus 1 at most, where that is more than the limit; and at no field past the fourteenth
-  broken-where : isBroken files n k i f ≡ true → ((i ≤ countOf (files k) k + 1) ⊎ (i ≤ 16384)) × (f ≤ 14)
+  broken-where : isBroken files n k i f ≡ true → ((i ≤ countOf (files k) k + 1) ⊎ (i ≤ limit)) × (f ≤ mostFields)
   unfolding isBroken
   broken-where e = go (n / 10) refl e
     where
@@ -109,7 +104,7 @@ module _ (files : Files) (n : ℕ) (k : Kind) (i f : ℕ) where
           ∷ topologyBroken (deliveryOf files) k n i f
           ∷ []
 
-      go : (t : ℕ) → n / 10 ≡ t → getD tests t false ≡ true → ((i ≤ countOf (files k) k + 1) ⊎ (i ≤ 16384)) × (f ≤ 14)
+      go : (t : ℕ) → n / 10 ≡ t → getD tests t false ≡ true → ((i ≤ countOf (files k) k + 1) ⊎ (i ≤ limit)) × (f ≤ mostFields)
       go zero q h = absurd (true-false (sym h))
       go (suc zero) q h = let p = low 0 q (omega arith) h in (inl (p .0), p .1)
       go (suc (suc zero)) q h = let p = low 1 q (omega arith) h in (inl (p .0), p .1)
@@ -149,13 +144,13 @@ ten-up files n k i f e = go (n / 10) refl
 
 record-small : (files : Files) (n : ℕ) (k : Kind) (i f : ℕ) → isBroken files n k i f ≡ true
     → ((n' : ℕ) (k' : Kind) (i' f' : ℕ) → isBroken files n' k' i' f' ≡ true → before (placeAt n' k' i' f') (placeAt n k i f) ≡ true → ⊥)
-    → i ≤ 16385
+    → i ≤ limit + 1
 record-small files n k zero f e least = omega arith
 record-small files n k (suc i) f e least =
     let l = long-before k n (suc i) f (ten-up files n k (suc i) f e) (omega arith) in
     ⊎-elim
     (λ (h : suc i ≤ countOf (files k) k + 1). omega (arith, count-small (files k) k (not-long l)))
-    (λ (h : suc i ≤ 16384). omega arith)
+    (λ (h : suc i ≤ limit). omega arith)
     (broken-where files n k (suc i) f e .0)
   where
     not-long : before (placeAt 10 k 0 0) (placeAt n k (suc i) f) ≡ true → breaks10 (files k) k ≡ false
@@ -165,11 +160,11 @@ record-small files n k (suc i) f e least =
         go true q = absurd (least 10 k 0 0 (long-broken files k q) l)
         go false q = refl
 
-pub place-fits : (files : Files) (b : Break) → judged files ≡ Broken b → (b .file ≤ 7) × (b .«record» ≤ 16385) × (b .field ≤ 14)
+pub place-fits : (files : Files) (b : Break) → judged files ≡ Broken b → (b .file ≤ fileCount) × (b .«record» ≤ limit + 1) × (b .field ≤ mostFields)
 unfolding Judges
 place-fits files b e = go (subst (Judges files) e (exact files))
   where
-    go : First files b → (b .file ≤ 7) × (b .«record» ≤ 16385) × (b .field ≤ 14)
+    go : First files b → (b .file ≤ fileCount) × (b .«record» ≤ limit + 1) × (b .field ≤ mostFields)
     go w =
         let p = broken-where files (w .n) (w .k) (w .i) (w .f) (w .really) in
         let s = w .shown in (

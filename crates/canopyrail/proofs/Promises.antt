@@ -9,7 +9,7 @@ use Rattle.record.specs.declared.reason.Finding.the-variants.{Fine, Broken}
 use Rattle.record.specs.Files.{Files}
 use Rattle.record.specs.Breaks.{numberOf}
 use Rattle.judge.specs.Verdict.{judged}
-use Rattle.canopyrail.specs.Answers.{wordOf, breakWord, findingWord, reasonIn, fileIn, recordIn, fieldIn}
+use Rattle.canopyrail.specs.Answers.{answerNumber, breakWord, findingWord, reasonIn, fileIn, recordIn, fieldIn}
 use Rattle.canopyrail.proofs.CallLaws.{break-told}
 use Rattle.canopyrail.proofs.Fits.{place-fits}
 
@@ -28,8 +28,8 @@ zero-is-accepted files e = go (judged files) e
 -- else reason, file, record and field can be had back from it: every place that is shown fits its digits
 apart :
     (r f i p o : ℕ) → f < 100 → i < 100000 → p < 100
-    → (reasonIn (wordOf r f i p o) ≡ r) × (fileIn (wordOf r f i p o) ≡ f) × (recordIn (wordOf r f i p o) ≡ i) × (fieldIn (wordOf r f i p o) ≡ p)
-unfolding wordOf
+    → (reasonIn (answerNumber r f i p o) ≡ r) × (fileIn (answerNumber r f i p o) ≡ f) × (recordIn (answerNumber r f i p o) ≡ i) × (fieldIn (answerNumber r f i p o) ≡ p)
+unfolding answerNumber
 apart r f i p o lf li lp = (omega arith, omega arith, omega arith, omega arith)
 
 pub answer-tells :

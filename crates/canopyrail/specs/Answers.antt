@@ -1,9 +1,6 @@
 -- The number that a call of the library answers with: 0, or a reason and its place in decimal digits.
 -- Assumes nothing.
 use Prim.Native.Nat.{ℕ, _+_, _*_, _/_, _%_}
-use Rattle.record.specs.declared.kind.Kind.{Kind}
-use Rattle.record.specs.declared.kind.Which.{Which}
-use Rattle.record.specs.declared.kind.Which.the-variants.{NoFile, File}
 use Rattle.record.specs.declared.reason.Reason.{Reason}
 use Rattle.record.specs.declared.reason.Reason.the-variants as R
 use Rattle.record.specs.declared.reason.Break.{Break}
@@ -44,8 +41,8 @@ otherOf R.Outside65 = 0
 otherOf R.NoSuchRecord66 = 0
 
 -- reason, file, record, field and other, in 2, 2, 5, 2 and 5 digits
-unfoldable pub wordOf : ℕ → ℕ → ℕ → ℕ → ℕ → ℕ
-wordOf reason file rec field other =
+unfoldable pub answerNumber : ℕ → ℕ → ℕ → ℕ → ℕ → ℕ
+answerNumber reason file rec field other =
     (((reason * 100 + file % 100) * 100000 + rec % 100000) * 100 + field % 100) * 100000 + other % 100000
 
 -- and each of them back
@@ -66,11 +63,11 @@ otherIn a = a % 100000
 
 -- a break
 unfoldable pub breakWord : Break → ℕ
-breakWord b = wordOf (numberOf (b .reason)) (b .file) (b .«record») (b .field) (otherOf (b .reason))
+breakWord b = answerNumber (numberOf (b .reason)) (b .file) (b .«record») (b .field) (otherOf (b .reason))
 
 -- a refusal of a call on one record: no file and no record is told
 unfoldable pub refusalWord : Reason → ℕ → ℕ
-refusalWord reason field = wordOf (numberOf reason) 0 0 field 0
+refusalWord reason field = answerNumber (numberOf reason) 0 0 field 0
 
 -- THE ANSWERS: of a judging, and of a call on one record
 abbrev pub findingWord : Finding → ℕ
@@ -80,8 +77,3 @@ findingWord (Broken b) = breakWord b
 abbrev pub answerWord : Answer → ℕ
 answerWord Done = 0
 answerWord (Refused reason field) = refusalWord reason field
-
--- a number of a kind, and 0 where there is no file
-unfoldable pub onFile : (Kind → ℕ) → Which → ℕ
-onFile g NoFile = 0
-onFile g (File k) = g k

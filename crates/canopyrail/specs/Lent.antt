@@ -1,5 +1,5 @@
--- The values of one record in lent memory, and the two calls on them: of each of fourteen fields a number, a coordinate, a length and
--- sixty bytes of text. A field whose length is 0 is missing; of a number or a coordinate any other length says that it is given.
+-- The values of one record in lent memory, and the two calls on them: of each field, up to the most that a record has, a number, a
+-- coordinate, a length and a text of the widest field's bytes. A field whose length is 0 is missing; of a number or a coordinate any other length says that it is given.
 -- Assumes nothing.
 use Prim.Native.Nat.{ℕ, zero, suc, _+_, _*_}
 use mathlib.Core.Bool.{Bool, true, false, not, _&&_, _||_}
@@ -12,8 +12,8 @@ use Rattle.laws.specs.Row.{pick, row}
 use Rattle.field.specs.Texts.{padded, firstBytes}
 use Rattle.record.specs.declared.kind.Kind.{Kind}
 use Rattle.record.specs.declared.kind.Form.{Form}
-use Rattle.record.specs.declared.kind.Form.the-variants.{Words, Code, Tipo, Sense, Sign, Number, Size}
-use Rattle.record.specs.Table.{formAt, widthAt, offsetAt}
+use Rattle.record.specs.declared.kind.Form.the-variants.{Words, Code, Sign, Number, Size}
+use Rattle.record.specs.Table.{formAt, widthAt, offsetAt, mostFields, widest}
 use Rattle.record.specs.declared.reason.Reason.the-variants.{ShortRoom61}
 use Rattle.codec.specs.declared.values.Value.{Value}
 use Rattle.codec.specs.declared.values.Values.{Values}
@@ -32,8 +32,6 @@ lentOffset k f = pick (eqb (widthAt k f) 0) 0 (offsetAt k f)
 abbrev pub formNumber : Form → ℕ
 formNumber Words = 1
 formNumber Code = 1
-formNumber Tipo = 1
-formNumber Sense = 1
 formNumber Sign = 2
 formNumber Number = 3
 formNumber Size = 4
@@ -42,6 +40,10 @@ unfoldable pub lentForm : Kind → ℕ → ℕ
 lentForm k f = pick (eqb (widthAt k f) 0) 0 (formNumber (formAt k f))
 
 -- VALUES PUT INTO LENT MEMORY
+-- the texts of all fields
+abbrev pub textRoom : ℕ
+textRoom = mostFields * widest
+
 -- a text's bytes; 1 of a number or a coordinate that is given
 unfoldable pub lentLength : Value → ℕ
 lentLength v = pick (v .given && eqb (v .len) 0) 1 (v .len)
@@ -51,30 +53,30 @@ unfoldable pub strung : (ℕ → List ℕ) → ℕ → List ℕ
 strung g zero = []
 strung g (suc n) = strung g n ++ g n
 
-abbrev pub numbersOf : Values → List ℕ
-numbersOf v = row (λ i. valueAt v (i + 1) .number) 14
+abbrev pub lentNumbers : Values → List ℕ
+lentNumbers v = row (λ i. valueAt v (i + 1) .number) mostFields
 
-abbrev pub coordinatesOf : Values → List ℤ
-coordinatesOf v = row (λ i. valueAt v (i + 1) .coordinate) 14
+abbrev pub lentCoordinates : Values → List ℤ
+lentCoordinates v = row (λ i. valueAt v (i + 1) .coordinate) mostFields
 
-abbrev pub lengthsOf : Values → List ℕ
-lengthsOf v = row (λ i. lentLength (valueAt v (i + 1))) 14
+abbrev pub lentLengths : Values → List ℕ
+lentLengths v = row (λ i. lentLength (valueAt v (i + 1))) mostFields
 
-abbrev pub textsOf : Values → List ℕ
-textsOf v = strung (λ i. padded 60 (firstBytes 60 (valueAt v (i + 1) .text))) 14
+abbrev pub lentTexts : Values → List ℕ
+lentTexts v = strung (λ i. padded widest (firstBytes widest (valueAt v (i + 1) .text))) mostFields
 
 -- lent memory after the values were put at its start; what lies past them is as it was
 pub record Holds (v : Values) (numbers : List ℕ) (coordinates : List ℤ) (lengths texts : List ℕ) (numbers' : List ℕ) (coordinates' : List ℤ) (lengths' texts' : List ℕ) : Type 0 where
-  pub theNumbers : numbers' ≡ numbersOf v ++ drop 14 numbers
-  pub theCoordinates : coordinates' ≡ coordinatesOf v ++ drop 14 coordinates
-  pub theLengths : lengths' ≡ lengthsOf v ++ drop 14 lengths
-  pub theTexts : texts' ≡ textsOf v ++ drop 840 texts
+  pub theNumbers : numbers' ≡ lentNumbers v ++ drop mostFields numbers
+  pub theCoordinates : coordinates' ≡ lentCoordinates v ++ drop mostFields coordinates
+  pub theLengths : lengths' ≡ lentLengths v ++ drop mostFields lengths
+  pub theTexts : texts' ≡ lentTexts v ++ drop textRoom texts
 
 -- READING
 -- room for fourteen of each, and for their texts
 unfoldable pub roomy : ℕ → ℕ → ℕ → ℕ → Bool
 roomy numbers coordinates lengths texts =
-    not (ltb numbers 14) && not (ltb coordinates 14) && not (ltb lengths 14) && not (ltb texts 840)
+    not (ltb numbers mostFields) && not (ltb coordinates mostFields) && not (ltb lengths mostFields) && not (ltb texts textRoom)
 
 -- a lawful record for whose values there is no room is refused with 61
 abbrev pub readAnswer : Answer → Bool → ℕ
@@ -100,11 +102,11 @@ lentValue numbers coordinates lengths texts i =
       number = getD numbers i 0;
       coordinate = getD coordinates i (pos 0);
       len = getD lengths i 0;
-      text = padded 60 (take 60 (drop (60 * i) texts));
+      text = padded widest (take widest (drop (widest * i) texts));
     }
 
 unfoldable pub lentValues : List ℕ → List ℤ → List ℕ → List ℕ → Values
-lentValues numbers coordinates lengths texts = record { at = row (lentValue numbers coordinates lengths texts) 14 }
+lentValues numbers coordinates lengths texts = record { at = row (lentValue numbers coordinates lengths texts) mostFields }
 
 -- file number, the lent values, the room before and after
 pub record WritesLent (file : ℕ) (v : Values) (room : List ℕ) (r : ℕ) (after : List ℕ) : Type 0 where

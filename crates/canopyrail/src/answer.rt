@@ -6,7 +6,7 @@ use record::reason::Reason;
 ghost use mathlib.Core.Path.{_≡_};
 ghost use Prim.Native.Nat.{_<_, _/_, _%_};
 ghost use Rattle.record.specs.Breaks.{numberOf};
-ghost use Rattle.canopyrail.specs.Answers.{otherOf, wordOf, refusalWord, breakWord, findingWord, reasonIn, fileIn, recordIn, fieldIn, otherIn};
+ghost use Rattle.canopyrail.specs.Answers.{otherOf, answerNumber, refusalWord, breakWord, findingWord, reasonIn, fileIn, recordIn, fieldIn, otherIn};
 
 // What a reason carries besides its place: the earlier record (30, 54) or the letter that the code is catalogued under (41).
 fn other_of(reason: Reason) -> u64
@@ -23,7 +23,7 @@ fn other_of(reason: Reason) -> u64
 // Reason, file, record, field and other in 2, 2, 5, 2 and 5 digits.
 fn word_of(reason: u64, file: u64, rec: u64, field: u64, other: u64) -> u64
     requires { ⌜ reason < 256 ⌝ }
-    ensures { λ r. ⌜ r ≡ wordOf reason file rec field other ⌝ }
+    ensures { λ r. ⌜ r ≡ answerNumber reason file rec field other ⌝ }
 {
     let to_file = reason * 100 + file % 100;
     let to_record = to_file * 100000 + rec % 100000;

@@ -9,11 +9,11 @@ ghost use mathlib.Core.Path.{_≡_};
 ghost use mathlib.Core.List.{List, [], map};
 ghost use Prim.Native.Nat.{ℕ};
 ghost use lib.ListN.{getD};
-ghost use Rattle.record.specs.Table.{whichOf};
+ghost use Rattle.record.specs.Table.{whichOf, onFile};
 ghost use Rattle.record.specs.Files.{filesOf};
 ghost use Rattle.record.specs.Cut.{countOf};
 ghost use Rattle.judge.specs.Verdict.{judged};
-ghost use Rattle.canopyrail.specs.Answers.{findingWord, onFile};
+ghost use Rattle.canopyrail.specs.Answers.{findingWord};
 
 // The n-th file, and an empty one where there is none. (No empty slice is made of nothing: it is a part of one that is there.)
 fn file_at<'a, 'b>(files: &'b [&'a [u8]], spare: &'a [u8], n: usize) -> &'a [u8]

@@ -8,6 +8,8 @@ use codec::values::missing_value;
 use codec::write::write;
 use field::words::put_text;
 use record::cut::part;
+use record::kind::MOST_FIELDS;
+use record::kind::WIDEST;
 use record::reason::Reason;
 ghost use mathlib.Core.Path.{_≡_};
 ghost use mathlib.Core.Bool.{_&&_};
@@ -16,9 +18,13 @@ ghost use Prim.Native.Nat.{ℕ, _+_, _*_, _<_, _≤_};
 ghost use lib.IntN.{ℤ, pos};
 ghost use lib.ListN.{length, getD, take, drop};
 ghost use lib.Dec.{ltb};
+ghost use Rattle.record.specs.Table.{mostFields};
 ghost use Rattle.codec.specs.Calls.{readOf};
-ghost use Rattle.canopyrail.specs.Lent.{lentLength, roomy, Holds, Reads, lentValue, lentValues, WritesLent};
+ghost use Rattle.canopyrail.specs.Lent.{lentLength, roomy, Holds, Reads, lentValue, lentValues, WritesLent, textRoom};
 ghost use Rattle.canopyrail.specs.Answers.{answerWord};
+
+// The texts of all fields, one after another.
+const TEXTS: usize = MOST_FIELDS * WIDEST;
 
 // A text's bytes; 1 of a number or a coordinate that is given.
 fn lent_length(v: Value) -> usize
@@ -40,11 +46,11 @@ fn put_values(
     lengths: &mut [usize],
     texts: &mut [u8],
 )
-    requires { ⌜ (14 ≤ length (now numbers)) × (14 ≤ length (now coordinates)) × (14 ≤ length (now lengths)) × (840 ≤ length (now texts)) ⌝ }
+    requires { ⌜ (mostFields ≤ length (now numbers)) × (mostFields ≤ length (now coordinates)) × (mostFields ≤ length (now lengths)) × (textRoom ≤ length (now texts)) ⌝ }
     ensures { λ _. ⌜ Holds values (now (numbers .entry)) (now (coordinates .entry)) (now (lengths .entry)) (now (texts .entry)) (now (numbers .exit)) (now (coordinates .exit)) (now (lengths .exit)) (now (texts .exit)) ⌝ }
 {
     let mut i = 0;
-    while i < 14 {
+    while i < MOST_FIELDS {
         let v = values.get(i + 1);
         let number = v.number;
         let coordinate = v.coordinate;
@@ -52,9 +58,9 @@ fn put_values(
         numbers[i] = number;
         coordinates[i] = coordinate;
         lengths[i] = lent_length(v);
-        let from = 60 * i;
-        let next = from + 60;
-        put_text(&mut texts[from..next], &text, 60);
+        let from = WIDEST * i;
+        let next = from + WIDEST;
+        put_text(&mut texts[from..next], &text, WIDEST);
         i += 1;
     }
 }
@@ -62,7 +68,10 @@ fn put_values(
 fn has_room(numbers: usize, coordinates: usize, lengths: usize, texts: usize) -> bool
     ensures { λ r. ⌜ r ≡ roomy numbers coordinates lengths texts ⌝ }
 {
-    !(numbers < 14) & !(coordinates < 14) & !(lengths < 14) & !(texts < 840)
+    !(numbers < MOST_FIELDS)
+        & !(coordinates < MOST_FIELDS)
+        & !(lengths < MOST_FIELDS)
+        & !(texts < TEXTS)
 }
 
 // Reads record n, counted from 1, of the bytes of the file with the number; a refusal leaves the lent memory as it was.
@@ -124,12 +133,12 @@ fn lent_value(
     texts: &[u8],
     i: usize,
 ) -> Value
-    requires { ⌜ i < 14 ⌝ }
+    requires { ⌜ i < mostFields ⌝ }
     ensures { λ r. ⌜ r ≡ lentValue (now (numbers .entry)) (now (coordinates .entry)) (now (lengths .entry)) (now (texts .entry)) i ⌝ }
 {
     let len = length_at(lengths, i);
-    let t = part(texts, 60 * i, 60);
-    let mut text = [32u8; 60];
+    let t = part(texts, WIDEST * i, WIDEST);
+    let mut text = [32u8; WIDEST];
     put_text(&mut text, t, t.len());
     Value {
         given: len != 0,
@@ -143,9 +152,9 @@ fn lent_value(
 fn lent_values(numbers: &[u64], coordinates: &[i64], lengths: &[usize], texts: &[u8]) -> Values
     ensures { λ r. ⌜ r ≡ lentValues (now (numbers .entry)) (now (coordinates .entry)) (now (lengths .entry)) (now (texts .entry)) ⌝ }
 {
-    let mut at = [missing_value(); 14];
+    let mut at = [missing_value(); MOST_FIELDS];
     let mut i = 0;
-    while i < 14 {
+    while i < MOST_FIELDS {
         at[i] = lent_value(numbers, coordinates, lengths, texts, i);
         i += 1;
     }

@@ -6,8 +6,7 @@ use record::kind::Which;
 use record::kind::kind_of;
 ghost use mathlib.Core.Path.{_≡_};
 ghost use Prim.Native.Nat.{ℕ};
-ghost use Rattle.record.specs.Table.{whichOf, fieldsOf, lengthOf, widthAt};
-ghost use Rattle.canopyrail.specs.Answers.{onFile};
+ghost use Rattle.record.specs.Table.{whichOf, fieldsOf, lengthOf, widthAt, onFile};
 ghost use Rattle.canopyrail.specs.Lent.{lentOffset, formNumber, lentForm};
 
 // The number of fields of the file's records.
@@ -66,8 +65,6 @@ fn form_number(form: Form) -> usize
     match form {
         Form::Words => 1,
         Form::Code => 1,
-        Form::Tipo => 1,
-        Form::Sense => 1,
         Form::Sign => 2,
         Form::Number => 3,
         Form::Size => 4,

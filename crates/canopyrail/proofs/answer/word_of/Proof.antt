@@ -1,7 +1,7 @@
 -- `canopyrail::answer::word_of` meets its contract.
 -- Assumes nothing.
 use mathlib.Core.Path.{refl}
-use Rattle.canopyrail.specs.Answers.{wordOf}
+use Rattle.canopyrail.specs.Answers.{answerNumber}
 use borrow.Author.Needs.{needs}
 use Rattle.canopyrail.proofs.answer.word_of.Statement.{statement}
 use Rattle.canopyrail.proofs.answer.word_of.Tie as tie
@@ -31,7 +31,7 @@ add-result : tie.Need-add-result
 add-result c = search needs
 
 returns : tie.Need-returns
-unfolding wordOf
+unfolding answerNumber
 returns c = refl
 
 pub word-of-spec : {M : Type 1} → statement M

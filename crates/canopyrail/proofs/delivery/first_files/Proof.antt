@@ -7,6 +7,7 @@ use native.Mathlib.Omega.{arith}
 use lib.ListN.{length, take, getD, length-set, length-map}
 use denote.Ref.{now}
 use borrow.Author.Needs.{needs}
+use Rattle.record.specs.Table.{fileCount}
 use Rattle.laws.specs.Row.{row}
 use Rattle.laws.proofs.RowLaws.{row-start}
 use Rattle.canopyrail.proofs.CallLaws.{files-more, files-end}
@@ -17,7 +18,7 @@ abbrev Inv-loop : tie.InvT-loop
 Inv-loop files spare all₀ n₀ all n = (n ≤ 7) × (length all ≡ 7) × (take n (map now all) ≡ row (λ i. getD (map now files) i []) n)
 
 abbrev μ-loop : tie.MeasureT-loop
-μ-loop files spare all₀ n₀ all n = 7 - n
+μ-loop files spare all₀ n₀ all n = fileCount - n
 
 loop-holds : tie.Need-loop-holds Inv-loop μ-loop
 loop-holds c = (omega arith, refl, row-start _ [])

@@ -6,6 +6,7 @@ use mathlib.Core.Path.{_≡_, refl, ap}
 use native.Mathlib.Omega.{arith}
 use lib.ListN.{length, take, length-set}
 use borrow.Author.Needs.{needs}
+use Rattle.record.specs.Table.{mostFields}
 use Rattle.laws.specs.Row.{row}
 use Rattle.laws.proofs.RowLaws.{row-start, row-more, row-end}
 use Rattle.canopyrail.specs.Lent.{lentValue, lentValues}
@@ -14,10 +15,10 @@ use Rattle.canopyrail.proofs.one.lent_values.Tie as tie
 
 abbrev Inv-loop : tie.InvT-loop
 Inv-loop numbers coordinates lengths texts at₀ i₀ at i =
-    (i ≤ 14) × (length at ≡ 14) × (take i at ≡ row (lentValue numbers coordinates lengths texts) i)
+    (i ≤ mostFields) × (length at ≡ mostFields) × (take i at ≡ row (lentValue numbers coordinates lengths texts) i)
 
 abbrev μ-loop : tie.MeasureT-loop
-μ-loop numbers coordinates lengths texts at₀ i₀ at i = 14 - i
+μ-loop numbers coordinates lengths texts at₀ i₀ at i = mostFields - i
 
 missing-value-requires : tie.Need-missing-value-requires Inv-loop μ-loop
 missing-value-requires c κs = search needs

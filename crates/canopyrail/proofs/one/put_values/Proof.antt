@@ -2,6 +2,7 @@
 -- Assumes nothing.
 use Prim.Native.Nat.{_-_}
 use borrow.Author.Needs.{needs}
+use Rattle.record.specs.Table.{mostFields}
 use Rattle.canopyrail.proofs.CallLaws.{Storing, storing-start, storing-more, storing-end}
 use Rattle.canopyrail.proofs.one.put_values.Statement.{statement}
 use Rattle.canopyrail.proofs.one.put_values.Tie as tie
@@ -10,7 +11,7 @@ abbrev Inv-loop : tie.InvT-loop
 Inv-loop values numbers₀ coordinates₀ lengths₀ texts₀ i₀ numbers coordinates lengths texts i = Storing values numbers₀ coordinates₀ lengths₀ texts₀ numbers coordinates lengths texts i
 
 abbrev μ-loop : tie.MeasureT-loop
-μ-loop values numbers₀ coordinates₀ lengths₀ texts₀ i₀ numbers coordinates lengths texts i = 14 - i
+μ-loop values numbers₀ coordinates₀ lengths₀ texts₀ i₀ numbers coordinates lengths texts i = mostFields - i
 
 loop-holds : tie.Need-loop-holds Inv-loop μ-loop
 loop-holds c = storing-start _ _ _ _ _ (c .before .before .before .pre)
