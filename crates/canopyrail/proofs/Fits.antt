@@ -23,12 +23,11 @@ use Rattle.record.specs.Table.{fieldsOf, fileOf, lengthOf, limit, mostFields, f
 use Rattle.record.specs.Files.{Files, deliveryOf}
 use Rattle.record.specs.Cut.{countOf}
 use Rattle.record.specs.Rules.{breaks10, twenties}
-use Rattle.record.specs.Breaks.{shapeTests}
-use Rattle.record.specs.Claims.{there, testsAt, broken}
+use Rattle.record.specs.Breaks.{shapeTests, there, testsAt, broken}
 use Rattle.record.proofs.TableLaws.{sane}
 use Rattle.keys.specs.Groups.{brokenBy}
-use Rattle.keys.specs.Findings.{keysBroken}
-use Rattle.topology.specs.Findings.{topologyBroken}
+use Rattle.keys.specs.Rules.{keysBroken}
+use Rattle.topology.specs.Rules.{topologyBroken}
 use Rattle.judge.specs.Verdict.{judged}
 use Rattle.judge.specs.Broken.{isBroken, placeAt, First, Judges}
 use Rattle.judge.proofs.Exact.{exact}

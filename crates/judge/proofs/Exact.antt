@@ -23,17 +23,15 @@ use Rattle.record.specs.declared.reason.Finding.{Finding}
 use Rattle.record.specs.declared.reason.Finding.the-variants.{Fine, Broken}
 use Rattle.record.specs.Table.{fileOf, whichOf, kinds}
 use Rattle.record.specs.Files.{Files, Delivery, deliveryOf}
-use Rattle.record.specs.Breaks.{numberOf, breakOf, findingOf, tenReasons, twentyReasons, shapeFinding, fieldsFinding}
-use Rattle.record.specs.Claims.{broken, MeansBy}
+use Rattle.record.specs.Breaks.{numberOf, breakOf, findingOf, tenReasons, twentyReasons, shapeFinding, fieldsFinding, broken}
+use Rattle.record.proofs.Claims.{MeansBy}
 use Rattle.record.proofs.TableLaws.{kind-at}
 use Rattle.record.proofs.Meaning.{shape-means, fields-means, means-shown}
-use Rattle.keys.specs.Rules.{keyReasons}
+use Rattle.keys.specs.Rules.{keyReasons, keysIn, keysFinding, keysBroken}
 use Rattle.keys.specs.Groups.{Reasons, breakIn, overFiles}
-use Rattle.keys.specs.Findings.{keysIn, keysFinding, keysBroken}
 use Rattle.keys.proofs.GroupMeaning.{keys-means, over-fine, over-broken, break-none, break-some}
 use Rattle.keys.proofs.Shown.{ShownBy, keys-shown}
-use Rattle.topology.specs.Rules.{fiftyReasons}
-use Rattle.topology.specs.Findings.{topologyIn, topologyFinding, topologyBroken}
+use Rattle.topology.specs.Rules.{fiftyReasons, topologyIn, topologyFinding, topologyBroken}
 use Rattle.topology.proofs.Meaning.{topology-means, topology-shown}
 use Rattle.judge.specs.Verdict.{groups, groupAt, judged}
 use Rattle.judge.specs.Broken.{isBroken, reasonOf, placeAt, First, Judges}

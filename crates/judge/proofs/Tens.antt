@@ -16,11 +16,9 @@ use Rattle.record.specs.declared.reason.Finding.{Finding}
 use Rattle.record.specs.declared.reason.Finding.the-variants.{Fine}
 use Rattle.record.specs.Files.{Files, Delivery, deliveryOf}
 use Rattle.record.specs.Breaks.{findingOf, fine}
-use Rattle.keys.specs.Rules.{keyTests, keyReasons}
+use Rattle.keys.specs.Rules.{keyTests, keyReasons, keysIn, keysFinding}
 use Rattle.keys.specs.Groups.{breakIn}
-use Rattle.keys.specs.Findings.{keysIn, keysFinding}
-use Rattle.topology.specs.Rules.{fiftyReasons}
-use Rattle.topology.specs.Findings.{topologyIn, topologyFinding, topologyTests}
+use Rattle.topology.specs.Rules.{fiftyReasons, topologyIn, topologyFinding, topologyTests}
 use Rattle.lawful.specs.Shown.{Unbroken}
 use Rattle.judge.specs.Verdict.{groupAt, judged}
 use Rattle.judge.proofs.NoneBroken.{over-fine, tests-none, none-broken-fine}

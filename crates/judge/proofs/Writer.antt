@@ -16,10 +16,8 @@ use Rattle.codec.specs.Values.{valuesSay}
 use Rattle.codec.specs.Refusals.{valuesFinding}
 use Rattle.codec.proofs.AllFalse.{values-fine}
 use Rattle.keys.specs.Groups.{breakIn}
-use Rattle.keys.specs.Rules.{keyTests, keyReasons}
-use Rattle.keys.specs.Findings.{keysBroken, keysIn, keysFinding}
-use Rattle.topology.specs.Rules.{fiftyReasons}
-use Rattle.topology.specs.Findings.{topologyTests, topologyBroken, topologyIn, topologyFinding}
+use Rattle.keys.specs.Rules.{keyTests, keyReasons, keysBroken, keysIn, keysFinding}
+use Rattle.topology.specs.Rules.{fiftyReasons, topologyTests, topologyBroken, topologyIn, topologyFinding}
 use Rattle.judge.specs.declared.judge.Verdict.{Verdict}
 use Rattle.judge.specs.Verdict.{groups, groupAt, judged, countsOf, verdictOf}
 use Rattle.judge.specs.Obeys.{Records, valuesAt, tablesOf, Obeys, madeOf, Shuffled, lengthsOf, accepted}

@@ -14,12 +14,9 @@ use Rattle.record.specs.declared.reason.Finding.{Finding}
 use Rattle.record.specs.declared.reason.Finding.the-variants.{Fine, Broken}
 use Rattle.record.specs.Table.{fileOf}
 use Rattle.record.specs.Files.{Files, deliveryOf}
-use Rattle.record.specs.Breaks.{numberOf, breakOf, tenReasons, twentyReasons}
-use Rattle.record.specs.Claims.{broken}
-use Rattle.keys.specs.Rules.{keyReasons}
-use Rattle.keys.specs.Findings.{keysBroken}
-use Rattle.topology.specs.Rules.{fiftyReasons}
-use Rattle.topology.specs.Findings.{topologyBroken}
+use Rattle.record.specs.Breaks.{numberOf, breakOf, tenReasons, twentyReasons, broken}
+use Rattle.keys.specs.Rules.{keyReasons, keysBroken}
+use Rattle.topology.specs.Rules.{fiftyReasons, topologyBroken}
 
 -- the reason with document 01's number n is broken at record i, field f of file k. Document 01 reads a rule only where no lower ten is
 -- broken: where one is, what this tells of higher tens is never shown, since the break of the lower ten comes first

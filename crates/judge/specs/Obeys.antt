@@ -13,8 +13,8 @@ use Rattle.codec.specs.declared.values.Values.{Values}
 use Rattle.codec.specs.Values.{noValue, valuesSay}
 use Rattle.codec.specs.Writes.{encode}
 use Rattle.codec.specs.Refusals.{sixties}
-use Rattle.keys.specs.Findings.{keysBroken}
-use Rattle.topology.specs.Findings.{topologyBroken}
+use Rattle.keys.specs.Rules.{keysBroken}
+use Rattle.topology.specs.Rules.{topologyBroken}
 use Rattle.judge.specs.declared.judge.Verdict.{Verdict}
 
 -- for each file the values of its records

@@ -11,8 +11,8 @@ use Rattle.record.specs.Files.{Files, Delivery, deliveryOf}
 use Rattle.record.specs.Cut.{countOf}
 use Rattle.record.specs.Breaks.{findingOf, shapeFinding, fieldsFinding}
 use Rattle.keys.specs.Groups.{breakIn, overFiles}
-use Rattle.keys.specs.Findings.{keysFinding}
-use Rattle.topology.specs.Findings.{topologyFinding}
+use Rattle.keys.specs.Rules.{keysFinding}
+use Rattle.topology.specs.Rules.{topologyFinding}
 use Rattle.judge.specs.declared.judge.Verdict.{Verdict}
 
 -- the groups of reasons, by their tens: 10 to 50

@@ -26,12 +26,11 @@ use Rattle.record.specs.declared.reason.Finding.{Finding}
 use Rattle.record.specs.declared.reason.Finding.the-variants.{Fine, Broken}
 use Rattle.record.specs.Table.{fieldsOf, fileOf, whichOf, fileCount}
 use Rattle.record.specs.Breaks.{numberOf, findingOf}
-use Rattle.record.specs.Claims.{MeansBy}
+use Rattle.record.proofs.Claims.{MeansBy}
 use Rattle.record.proofs.TableLaws.{sane}
 use Rattle.record.specs.Files.{Delivery}
-use Rattle.keys.specs.Rules.{keyTests, keyReasons}
+use Rattle.keys.specs.Rules.{keyTests, keyReasons, keysIn, keysBroken}
 use Rattle.keys.specs.Groups.{Tests, Reasons, cellsOf, groupFinding, brokenBy, breakIn, atFile, overFiles}
-use Rattle.keys.specs.Findings.{keysIn, keysBroken}
 use Rattle.keys.proofs.CellLaws.{Clear, Least, firstCell, none-cells, some-cells, cellTest, cellAnswer, group-is}
 
 before-none : before [] [] ≡ true → ⊥

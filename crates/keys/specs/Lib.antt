@@ -1,4 +1,3 @@
-pub mod Rules
 pub mod Groups
-pub mod Findings
+pub mod Rules
 pub mod machinery

@@ -29,10 +29,9 @@ ghost use Rattle.record.specs.Table.{limit};
 ghost use Rattle.record.specs.Files.{filesOf, deliveryOf};
 ghost use Rattle.record.specs.Says.{tableOf};
 ghost use Rattle.record.specs.Names.{nameAt, keyOf};
-ghost use Rattle.keys.specs.Rules.{breaks30, breaks40, breaks41, keyTests, keyReasons, refersToCatalogue, firstWith};
+ghost use Rattle.keys.specs.Rules.{breaks30, breaks40, breaks41, keyTests, keyReasons, refersToCatalogue, firstWith, keysIn, keysFinding};
 ghost use Rattle.keys.specs.Groups.{atFile};
 ghost use Rattle.keys.specs.machinery.Cells.{betterOf};
-ghost use Rattle.keys.specs.Findings.{keysIn, keysFinding};
 
 // The least record of some cells and its cell, where one is found.
 pub struct Best {

@@ -1,5 +1,6 @@
 // Reasons 40 and 41: the first record of a file with a reference that names no record, or a code of another type.
 use index::Found;
+use index::HINTS;
 use index::hint::all_present_in;
 use index::hint::fill_hints;
 use index::hint::find_hinted;
@@ -163,7 +164,7 @@ pub fn first_mistyped<'a>(s: &'a [u8], k: Kind, f: usize, cat: &'a [u8], wanted:
     let n = fill_names(cat, Kind::Catalogo, 1, &mut keys);
     let mut order = [0usize; LIMIT];
     if sort(&keys, &mut order, n) {
-        let mut hints = [0u16; 32768];
+        let mut hints = [0u16; HINTS];
         fill_hints(&keys, &mut hints, n);
         first_mistyped_in(&refs, m, cat, &keys, &order, &hints, n, wanted)
     } else {

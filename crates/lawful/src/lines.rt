@@ -2,6 +2,7 @@
 // nodes, 50 to 53 and 59. True only where each rule holds; false says nothing.
 use crate::nodes::node_stands;
 use index::Found;
+use index::HINTS;
 use index::hint::all_known;
 use index::hint::differ;
 use index::hint::fill_hints;
@@ -264,7 +265,7 @@ fn lines_known<'a>(vertice: &'a [u8], lines: &'a [u64], of: &'a [u16], t: usize)
 {
     let mut own = [0u64; LIMIT];
     let n = fill_names(vertice, Kind::Vertice, 1, &mut own);
-    let mut hints = [0u16; 32768];
+    let mut hints = [0u16; HINTS];
     fill_hints(&own, &mut hints, n);
     all_known(&own, n, lines, of, t) & all_known(lines, t, &own, &hints, n)
 }
@@ -347,11 +348,11 @@ pub(crate) fn lined<'a>(
 {
     let mut keys = [0u64; LIMIT];
     let n = fill_keys(vertice, Kind::Vertice, &mut keys);
-    let mut hints = [0u16; 32768];
+    let mut hints = [0u16; HINTS];
     fill_hints(&keys, &mut hints, n);
     let mut lines = [0u64; LIMIT];
     let t = fill_names(tramo, Kind::Tramo, 4, &mut lines);
-    let mut of = [0u16; 32768];
+    let mut of = [0u16; HINTS];
     fill_hints(&lines, &mut of, t);
     differ(&keys, &hints, n)
         & all_numbered(&keys, &hints, n)

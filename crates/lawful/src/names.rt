@@ -2,6 +2,7 @@
 // each rule holds; false says nothing.
 use crate::marks::all_used;
 use index::Found;
+use index::HINTS;
 use index::hint::all_known;
 use index::hint::differ;
 use index::hint::fill_hints;
@@ -115,7 +116,7 @@ pub(crate) fn catalogued<'a>(
     let n = fill_names(catalogo, Kind::Catalogo, 1, &mut codes);
     let mut letters = [0u64; LIMIT];
     fill_letters(catalogo, Kind::Catalogo, 2, &mut letters);
-    let mut hints = [0u16; 32768];
+    let mut hints = [0u16; HINTS];
     fill_hints(&codes, &mut hints, n);
     differ(&codes, &hints, n)
         & typed(ob_pun, Kind::ObPun, 4, &codes, &hints, &letters, n)
@@ -132,7 +133,7 @@ pub(crate) fn objects<'a>(ob_lin: &'a [u8], tramo: &'a [u8]) -> bool
     let n = fill_names(ob_lin, Kind::ObLin, 1, &mut ids);
     let mut refs = [0u64; LIMIT];
     let m = fill_names(tramo, Kind::Tramo, 2, &mut refs);
-    let mut hints = [0u16; 32768];
+    let mut hints = [0u16; HINTS];
     fill_hints(&ids, &mut hints, n);
     differ(&ids, &hints, n)
         & all_known(&refs, m, &ids, &hints, n)

@@ -3,6 +3,7 @@
 use crate::lines::lined;
 use crate::marks::mark_all;
 use index::Found;
+use index::HINTS;
 use index::hint::differ;
 use index::hint::fill_hints;
 use index::hint::guess;
@@ -180,7 +181,7 @@ fn held<'a>(
     mark_all(points, p, ids, nodes, m, &mut used);
     let mut mixes = [0u64; LIMIT];
     fill_mixed(xs, ys, n, &mut mixes);
-    let mut hints = [0u16; 32768];
+    let mut hints = [0u16; HINTS];
     fill_hints(&mixes, &mut hints, n);
     all_held(&used, m, nx, ny, &mixes, &hints, n, xs, ys)
 }
@@ -276,7 +277,7 @@ pub(crate) fn noded<'a>(
 {
     let mut ids = [0u64; LIMIT];
     let m = fill_names(nodo, Kind::Nodo, 1, &mut ids);
-    let mut nodes = [0u16; 32768];
+    let mut nodes = [0u16; HINTS];
     fill_hints(&ids, &mut nodes, m);
     let mut nx = [0u64; LIMIT];
     fill_places(nodo, Kind::Nodo, 4, &mut nx);

@@ -7,4 +7,5 @@ pub mod NameLaws
 pub mod ColumnLaws
 pub mod FindingLaws
 pub mod GlanceLaws
+pub mod Claims
 pub mod Meaning

@@ -11,10 +11,10 @@ use lib.Dec.{ltb, leb, eqb, leb·suc-suc, leb·suc-zero, eqb·suc-zero}
 use lib.ListN.{length, getD, List·getD-eq-default}
 use borrow.Author.Tests.{ltb-false, le-leb, ne-eqb, eqb-true, not-false}
 use Rattle.laws.specs.Find.{hit, firstOf, firstIndex, any}
-use Rattle.laws.specs.Nest.{Nest, run, at, before}
+use Rattle.laws.specs.Nest.{Nest, run, before}
 use Rattle.laws.specs.Row.{pick}
 use Rattle.laws.proofs.FindLaws.{true-false, any-no}
-use Rattle.laws.proofs.NestLaws.{before-total}
+use Rattle.laws.proofs.NestLaws.{before-total, at}
 use Rattle.laws.proofs.RowLaws.{and-true, and-false}
 use Rattle.laws.proofs.GridLaws.{at-pick, at-here, at-empty, Deep, deep-leaf, deep-empty, deep-node, Grid, grid-none, grid-some, before-under, before-one, one-before}
 use Rattle.record.specs.declared.kind.Kind.{Kind}
@@ -25,8 +25,8 @@ use Rattle.record.specs.declared.reason.Finding.{Finding}
 use Rattle.record.specs.declared.reason.Finding.the-variants.{Fine, Broken}
 use Rattle.record.specs.Cut.{countOf, recordOf}
 use Rattle.record.specs.Rules.{twenties}
-use Rattle.record.specs.Breaks.{numberOf, breakOf, findingOf, atPlace, tenReasons, shapeTests, shapeBreaks, twentyReasons, recordBreaks, fieldBreaksAt, fieldBreaks, shapeFinding, fieldsFinding}
-use Rattle.record.specs.Claims.{there, testsAt, broken, MeansBy, Means}
+use Rattle.record.specs.Breaks.{numberOf, breakOf, findingOf, atPlace, tenReasons, shapeTests, shapeBreaks, twentyReasons, recordBreaks, fieldBreaksAt, fieldBreaks, shapeFinding, fieldsFinding, there, testsAt, broken}
+use Rattle.record.proofs.Claims.{MeansBy, Means}
 
 -- the reasons below 30, by their tens
 unfoldable groupAt : ℕ → List Reason

@@ -19,7 +19,7 @@ use Rattle.record.specs.declared.kind.Form.the-variants.{Words, Code, Si
 use Rattle.record.specs.declared.kind.Domain.{Domain}
 use Rattle.record.specs.declared.kind.Domain.the-variants.{Any, ObjectType, PlusMinus}
 use Rattle.record.specs.declared.kind.Which.the-variants.{NoFile, File}
-use Rattle.record.specs.Table.{Col, whole, cols, roomIn, roomOf, offsetIn, lengthIn, colAt, formAt, widthAt, domainAt, ownAt, offsetAt, keysOf, kinds, longest, mostFields, widest, fieldsOf, lengthOf, fileOf, whichOf, isN}
+use Rattle.record.specs.Table.{Col, whole, cols, roomIn, roomOf, offsetIn, lengthIn, colAt, formAt, widthAt, domainAt, ownAt, offsetAt, keysOf, kinds, mostFields, widest, fieldsOf, lengthOf, fileOf, whichOf, isN}
 
 -- A TABLE: a test of every element holds at every index, where it holds of the default
 pub each-getD : {A : Type 0} (p : A → Bool) (xs : List A) (d : A) → p d ≡ true → each p xs ≡ true → (i : ℕ) → p (getD xs i d) ≡ true
@@ -71,6 +71,10 @@ every p e k = subst (λ (j : Kind). p j ≡ true) (kind-at k) (each-getD p kinds
 
 every-le : (g h : Kind → ℕ) → each (λ j. leb (g j) (h j)) kinds ≡ true → (k : Kind) → g k ≤ h k
 every-le g h e k = leb-true _ _ (every (λ j. leb (g j) (h j)) e k)
+
+-- the bytes of the longest record
+abbrev pub longest : ℕ
+longest = 149
 
 -- what the layers above need of each kind
 pub record Sane (k : Kind) : Type 0 where

@@ -1,11 +1,12 @@
 -- The breaks of a file's shape and of its fields, in the fixed order, and the first of them.
 -- Assumes nothing.
-use Prim.Native.Nat.{ℕ, zero, suc, _+_}
+use Rattle.laws.specs.Row.{pick}
+use Prim.Native.Nat.{ℕ, zero, suc, _+_, _-_, _/_, _%_}
 use mathlib.Core.Bool.{Bool, true, false, _&&_}
 use mathlib.Core.List.{List, [], _∷_}
 use mathlib.Core.Option.{Option, none, some}
 use lib.ListN.{length, getD}
-use lib.Dec.{eqb}
+use lib.Dec.{eqb, leb}
 use Rattle.laws.specs.Find.{hit, firstIndex}
 use Rattle.laws.specs.Nest.{Nest, leaf, node, run}
 use Rattle.record.specs.declared.kind.Kind.{Kind}
@@ -109,3 +110,22 @@ recordFinding s k i = findingOf (run (recordBreaks s k i))
 
 unfoldable pub fieldsFinding : List ℕ → Kind → Finding
 fieldsFinding s k = findingOf (run (fieldBreaks s k))
+
+-- WHAT IS BROKEN, free of any search
+-- record i and place f are there
+abbrev pub there : List ℕ → Kind → ℕ → ℕ → Bool
+there s k i f = leb 1 i && leb i (countOf s k) && leb f (fieldsOf k)
+
+-- the tests of a file's bytes at record i and field f, by the tens of the reason
+unfoldable pub testsAt : ℕ → List ℕ → Kind → ℕ → ℕ → List Bool
+testsAt t s k i f =
+    getD
+    ([]
+    ∷ pick (eqb f 0) (shapeTests s k i) []
+    ∷ pick (there s k i f) (twenties (recordOf s k (i - 1)) k f) []
+    ∷ [])
+    t []
+
+-- the reason with document 01's number n is broken at record i, field f of the file
+unfoldable pub broken : List ℕ → Kind → ℕ → ℕ → ℕ → Bool
+broken s k n i f = getD (testsAt (n / 10) s k i f) (n % 10) false

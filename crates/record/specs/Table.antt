@@ -119,57 +119,25 @@ pub record FileRow : Type 0 where
   pub keys : ℕ
   pub fields : List Col
 
+abbrev pub fileRow : ℕ → ℕ → ℕ → List Col → FileRow
+fileRow file letter keys fields = record { file = file; letter = letter; keys = keys; fields = fields }
+
 -- THE ROWS
 abbrev pub rowOf : Kind → FileRow
 -- CODIGO, TIPO, NOMBRE_C, DEFINICI. Its own CODIGO refers to nothing
-rowOf Catalogo = record {
-  file = 1;
-  letter = 0;
-  keys = 1;
-  fields = single Code 7 always Any Free ∷ single Words 1 always ObjectType Free ∷ freeWord ∷ freeWord ∷ [];
-}
--- own id, composite id, node id, CODIGO (type P), name, orientation, M, position
-rowOf ObPun = record {
-  file = 2;
-  letter = 80;
-  keys = 1;
-  fields = need 10 ∷ noFileYet ∷ mayNameA Nodo ∷ code ∷ freeWord ∷ may 5 ∷ may 3 ∷ position;
-}
--- own id, composite id, CODIGO (type X), LITERAL, height, width, orientation, justification, position
-rowOf ObTex = record {
-  file = 3;
-  letter = 88;
-  keys = 1;
-  fields = need 10 ∷ noFileYet ∷ code ∷ freeWord ∷ need 3 ∷ may 3 ∷ may 5 ∷ need 1 ∷ position;
-}
--- own id, composite id, CODIGO (type L), name, centroid
-rowOf ObLin = record {
-  file = 4;
-  letter = 76;
-  keys = 1;
-  fields = need 10 ∷ noFileYet ∷ code ∷ freeWord ∷ centroid;
-}
--- own id, linear object id, perimeter id, line id, CODIGO (type T), start node, end node, sense
-rowOf Tramo = record {
-  file = 5;
-  letter = 84;
-  keys = 1;
-  fields = need 10 ∷ needsA ObLin ∷ noFileYet ∷ ownLine ∷ code ∷ needsA Nodo ∷ needsA Nodo ∷ single Words 1 never PlusMinus Free ∷ [];
-}
+rowOf Catalogo = fileRow 1 0 1 (single Code 7 always Any Free ∷ single Words 1 always ObjectType Free ∷ freeWord ∷ freeWord ∷ [])
+-- type P; own id, composite id, node id, CODIGO, name, orientation, M, position
+rowOf ObPun = fileRow 2 80 1 (need 10 ∷ noFileYet ∷ mayNameA Nodo ∷ code ∷ freeWord ∷ may 5 ∷ may 3 ∷ position)
+-- type X; own id, composite id, CODIGO, LITERAL, height, width, orientation, justification, position
+rowOf ObTex = fileRow 3 88 1 (need 10 ∷ noFileYet ∷ code ∷ freeWord ∷ need 3 ∷ may 3 ∷ may 5 ∷ need 1 ∷ position)
+-- type L; own id, composite id, CODIGO, name, centroid
+rowOf ObLin = fileRow 4 76 1 (need 10 ∷ noFileYet ∷ code ∷ freeWord ∷ centroid)
+-- type T; own id, linear object id, perimeter id, line id, CODIGO, start node, end node, sense
+rowOf Tramo = fileRow 5 84 1 (need 10 ∷ needsA ObLin ∷ noFileYet ∷ ownLine ∷ code ∷ needsA Nodo ∷ needsA Nodo ∷ single Words 1 never PlusMinus Free ∷ [])
 -- line id, which a tramo uses, order, position
-rowOf Vertice = record {
-  file = 6;
-  letter = 0;
-  keys = 2;
-  fields = single Number 10 always Any (To Tramo 4) ∷ need 5 ∷ position;
-}
+rowOf Vertice = fileRow 6 0 2 (single Number 10 always Any (To Tramo 4) ∷ need 5 ∷ position)
 -- own id, TIPO (in the base any byte of the A set), position
-rowOf Nodo = record {
-  file = 7;
-  letter = 0;
-  keys = 1;
-  fields = need 10 ∷ words 1 ∷ position;
-}
+rowOf Nodo = fileRow 7 0 1 (need 10 ∷ words 1 ∷ position)
 
 -- the kinds, in the order of their files' numbers
 abbrev pub kinds : List Kind
@@ -183,10 +151,7 @@ fileCount = length kinds
 abbrev pub limit : ℕ
 limit = 16384
 
--- of all rows: the bytes of the longest record, the fields of the record with most, the bytes of the widest field
-abbrev pub longest : ℕ
-longest = 149
-
+-- of all rows: the fields of the record with most, the bytes of the widest field
 abbrev pub mostFields : ℕ
 mostFields = 14
 

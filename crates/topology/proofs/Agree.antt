@@ -9,8 +9,7 @@ use Rattle.record.specs.Files.{Delivery}
 use Rattle.record.specs.Names.{nameAt, keyOf}
 use Rattle.keys.specs.Groups.{Tests, Reasons, groupFinding, brokenBy, overFiles}
 use Rattle.keys.proofs.Agree.{Agrees, struck, struck-same}
-use Rattle.topology.specs.Rules.{placed, nodeIn, meets, breaks50, breaks51, startElsewhere, breaks52, endElsewhere, breaks53, samePlace, placedBefore, breaks54, pointElsewhere, breaks55, nodeUsed, breaks56, objectIdle, breaks57, breaks59, fifties, fiftyReasons}
-use Rattle.topology.specs.Findings.{topologyIn, topologyFinding, topologyBroken}
+use Rattle.topology.specs.Rules.{placed, nodeIn, meets, breaks50, breaks51, startElsewhere, breaks52, endElsewhere, breaks53, samePlace, placedBefore, breaks54, pointElsewhere, breaks55, nodeUsed, breaks56, objectIdle, breaks57, breaks59, fifties, fiftyReasons, topologyIn, topologyFinding, topologyBroken}
 
 fifties-struck : (d : Delivery) → fifties (struck d) ≡ fifties d
 unfolding colAt isFreeWord nameAt keyOf placed nodeIn meets breaks50 breaks51 startElsewhere breaks52 endElsewhere breaks53 samePlace placedBefore breaks54 pointElsewhere breaks55 nodeUsed breaks56 objectIdle breaks57 breaks59 fifties

@@ -4,6 +4,7 @@ use crate::places::scan_node;
 use crate::places::x_at;
 use crate::places::y_at;
 use index::Found;
+use index::HINTS;
 use index::hint::fill_hints;
 use index::hint::find_hinted;
 use index::look::highest_in;
@@ -188,9 +189,9 @@ pub(crate) fn first_elsewhere<'a>(
     let m = fill_names(nodo, Kind::Nodo, 1, &mut ids);
     let mut ranks = [0usize; LIMIT];
     if sort(&keys, &mut order, n) & sort(&ids, &mut ranks, m) {
-        let mut vertices = [0u16; 32768];
+        let mut vertices = [0u16; HINTS];
         fill_hints(&keys, &mut vertices, n);
-        let mut nodes = [0u16; 32768];
+        let mut nodes = [0u16; HINTS];
         fill_hints(&ids, &mut nodes, m);
         first_apart(
             end,
@@ -277,7 +278,7 @@ pub(crate) fn first_astray<'a>(ob_pun: &'a [u8], nodo: &'a [u8]) -> Found
     let m = fill_names(nodo, Kind::Nodo, 1, &mut ids);
     let mut ranks = [0usize; LIMIT];
     if sort(&ids, &mut ranks, m) {
-        let mut nodes = [0u16; 32768];
+        let mut nodes = [0u16; HINTS];
         fill_hints(&ids, &mut nodes, m);
         first_astray_in(ob_pun, nodo, &ids, &ranks, &nodes, m)
     } else {

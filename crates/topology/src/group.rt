@@ -32,8 +32,7 @@ ghost use Rattle.record.specs.Table.{limit};
 ghost use Rattle.record.specs.Files.{filesOf, deliveryOf};
 ghost use Rattle.record.specs.Says.{tableOf};
 ghost use Rattle.keys.specs.Groups.{atFile};
-ghost use Rattle.topology.specs.Rules.{isAt, fifties, reasonsAt};
-ghost use Rattle.topology.specs.Findings.{topologyIn, topologyFinding};
+ghost use Rattle.topology.specs.Rules.{isAt, fifties, reasonsAt, topologyIn, topologyFinding};
 
 // Whether a rule of this file and field is read of file k at field f.
 fn is_at(file: Kind, field: usize, k: Kind, f: usize) -> bool

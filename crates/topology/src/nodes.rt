@@ -5,6 +5,7 @@ use crate::places::x_at;
 use crate::places::y_at;
 use crate::places::z_at;
 use index::Found;
+use index::HINTS;
 use index::hint::fill_hints;
 use index::hint::has_hinted;
 use index::order::sort;
@@ -163,7 +164,7 @@ fn mark_names<'a>(
     let n = fill_names(to, other, g, &mut keys);
     let mut order = [0usize; LIMIT];
     sort(&keys, &mut order, n);
-    let mut hints = [0u16; 32768];
+    let mut hints = [0u16; HINTS];
     fill_hints(&keys, &mut hints, n);
     mark_named(s, k, f, &keys, &order, &hints, n, used);
 }
@@ -202,7 +203,7 @@ fn mark_places<'a>(nodo: &'a [u8], vertice: &'a [u8], used: &mut [u64; LIMIT])
     let n = fill_positions(vertice, Kind::Vertice, &mut positions);
     let mut order = [0usize; LIMIT];
     sort(&positions, &mut order, n);
-    let mut hints = [0u16; 32768];
+    let mut hints = [0u16; HINTS];
     fill_hints(&positions, &mut hints, n);
     mark_placed(nodo, vertice, &positions, &order, &hints, n, used);
 }

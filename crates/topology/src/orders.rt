@@ -1,5 +1,6 @@
 // Vertex numbering: reasons 50 and 51. Only the order number counts, never the place in the file.
 use index::Found;
+use index::HINTS;
 use index::hint::fill_hints;
 use index::hint::has_hinted;
 use index::order::sort;
@@ -79,7 +80,7 @@ pub(crate) fn first_gap(vertice: &[u8]) -> Found
     let n = fill_keys(vertice, Kind::Vertice, &mut keys);
     let mut order = [0usize; LIMIT];
     if sort(&keys, &mut order, n) {
-        let mut hints = [0u16; 32768];
+        let mut hints = [0u16; HINTS];
         fill_hints(&keys, &mut hints, n);
         first_gap_in(&keys, &order, &hints, n)
     } else {
@@ -95,7 +96,7 @@ pub(crate) fn first_alone(vertice: &[u8]) -> Found
     let n = fill_keys(vertice, Kind::Vertice, &mut keys);
     let mut order = [0usize; LIMIT];
     if sort(&keys, &mut order, n) {
-        let mut hints = [0u16; 32768];
+        let mut hints = [0u16; HINTS];
         fill_hints(&keys, &mut hints, n);
         first_alone_in(&keys, &order, &hints, n)
     } else {

@@ -7,8 +7,7 @@ use denote.Ref.{now}
 use borrow.Author.Needs.{needs}
 use Rattle.record.specs.Files.{filesOf, deliveryOf}
 use Rattle.record.proofs.TableLaws.{sane}
-use Rattle.keys.specs.Rules.{keyTests}
-use Rattle.keys.specs.Findings.{keysIn}
+use Rattle.keys.specs.Rules.{keyTests, keysIn}
 use Rattle.keys.proofs.CellLaws.{Sifted, sifted-start, sifted-more, sifted-row, sifted-broken, sifted-fine}
 use Rattle.keys.proofs.group.check_file.Statement.{statement}
 use Rattle.keys.proofs.group.check_file.Tie as tie

@@ -7,8 +7,7 @@ use denote.Ref.{now}
 use borrow.Author.Needs.{needs}
 use Rattle.record.specs.Files.{filesOf, deliveryOf}
 use Rattle.record.proofs.TableLaws.{sane}
-use Rattle.topology.specs.Rules.{fifties, fiftyReasons}
-use Rattle.topology.specs.Findings.{topologyIn}
+use Rattle.topology.specs.Rules.{fifties, fiftyReasons, topologyIn}
 use Rattle.keys.proofs.CellLaws.{Sifted, sifted-start, sifted-more, sifted-row, sifted-broken, sifted-fine}
 use Rattle.topology.proofs.group.check_file.Statement.{statement}
 use Rattle.topology.proofs.group.check_file.Tie as tie
