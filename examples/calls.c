@@ -18,7 +18,16 @@
 
 #include "canopyrail.h"
 
-enum { CATALOGO = 1, OB_PUN, OB_TEX, OB_LIN, TRAMO, VERTICE, NODO, FILES = 7 };
+enum {
+    CATALOGO = CANOPYRAIL_CATALOGO,
+    OB_PUN = CANOPYRAIL_OB_PUN,
+    OB_TEX = CANOPYRAIL_OB_TEX,
+    OB_LIN = CANOPYRAIL_OB_LIN,
+    TRAMO = CANOPYRAIL_TRAMO,
+    VERTICE = CANOPYRAIL_VERTICE,
+    NODO = CANOPYRAIL_NODO,
+    FILES = CANOPYRAIL_FILES
+};
 enum { FIELDS = CANOPYRAIL_FIELDS, TEXT = CANOPYRAIL_TEXT, TEXTS = FIELDS * TEXT };
 
 static unsigned long checks;
@@ -218,21 +227,44 @@ static delivery changed(size_t f, size_t record, size_t field, const char *text)
     return d;
 }
 
-static uint64_t judge(const delivery *d)
-{
-    const uint8_t *b[FILES + 1];
-    size_t n[FILES + 1];
+/* An entry that must not be looked at: its bytes can't be read, and a file so long has reason 10. */
+static const canopyrail_bytes garbage = {(const uint8_t *)1, SIZE_MAX};
 
-    for (size_t f = 1; f <= FILES; f++) {
-        n[f] = d->files[f].length;
-        b[f] = lend_copy(d->files[f].bytes, n[f]);
+/* An array of n entries and no more: the delivery's files, and past them garbage. */
+static canopyrail_bytes *lend_files(const delivery *d, size_t n)
+{
+    canopyrail_bytes *files = lend(n * sizeof *files);
+
+    for (size_t i = 0; i < n; i++) {
+        files[i] = garbage;
+        if (i < FILES) {
+            files[i].len = d->files[i + 1].length;
+            files[i].bytes = lend_copy(d->files[i + 1].bytes, files[i].len);
+        }
     }
-    uint64_t answer = canopyrail_judge(b[1], n[1], b[2], n[2], b[3], n[3], b[4], n[4], b[5], n[5],
-                                       b[6], n[6], b[7], n[7]);
-    for (size_t f = 1; f <= FILES; f++)
-        CHECK(n[f] == 0 || memcmp(b[f], d->files[f].bytes, n[f]) == 0);
+    return files;
+}
+
+/* Judges by an array of n entries; what is lent must stay as it was. */
+static uint64_t judge_first(const delivery *d, size_t n)
+{
+    canopyrail_bytes *files = lend_files(d, n);
+    canopyrail_bytes before[2 * FILES];
+
+    NEED(n <= 2 * FILES);
+    if (n > 0)
+        memcpy(before, files, n * sizeof *files);
+    uint64_t answer = canopyrail_judge(files, n);
+    CHECK(n == 0 || memcmp(before, files, n * sizeof *files) == 0);
+    for (size_t i = 0; i < n && i < FILES; i++)
+        CHECK(files[i].len == 0 || memcmp(files[i].bytes, d->files[i + 1].bytes, files[i].len) == 0);
     give_back();
     return answer;
+}
+
+static uint64_t judge(const delivery *d)
+{
+    return judge_first(d, FILES);
 }
 
 static int is(uint64_t answer, uint64_t reason, uint64_t f, uint64_t record, uint64_t field,
@@ -259,7 +291,6 @@ static void check_accepted(void)
     CHECK(judge(&s) == 0);
     CHECK(judge(&none) == 0);
     CHECK(judge(&bar) == 0);
-    CHECK(canopyrail_judge(NULL, 0, NULL, 0, NULL, 0, NULL, 0, NULL, 0, NULL, 0, NULL, 0) == 0);
     for (size_t f = 1; f <= FILES; f++) {
         const uint8_t *bytes = lend_copy(s.files[f].bytes, s.files[f].length);
         CHECK(canopyrail_count(f, bytes, s.files[f].length) == counts[f]);
@@ -269,6 +300,32 @@ static void check_accepted(void)
         give_back();
     }
     CHECK(is(0, 0, 0, 0, 0, 0));
+}
+
+/* Fewer entries than files, more entries than files, and entries that are null. */
+static void check_entries(void)
+{
+    static const canopyrail_bytes nulls[FILES] = {{NULL, 0}};
+    delivery s = small();
+    delivery bad = changed(NODO, 2, 4, "000000141");
+
+    CHECK(canopyrail_judge(NULL, 0) == 0);
+    for (size_t n = 0; n <= FILES; n++) {
+        delivery cut = s;
+        for (size_t f = n + 1; f <= FILES; f++)
+            cut.files[f].length = 0;
+        CHECK(canopyrail_judge(nulls, n) == 0);
+        CHECK(judge_first(&s, n) == judge(&cut));
+    }
+    /* Without the nodes tramo 1 starts nowhere; without the vertices its line has none. */
+    CHECK(is(judge_first(&s, 6), CANOPYRAIL_NO_RECORD, TRAMO, 1, 6, 0));
+    CHECK(is(judge_first(&s, 5), CANOPYRAIL_NO_RECORD, TRAMO, 1, 4, 0));
+    CHECK(is(judge_first(&s, 4), CANOPYRAIL_IDLE_OBJECT, OB_LIN, 1, 0, 0));
+    CHECK(judge_first(&s, 1) == 0);
+    for (size_t n = FILES + 1; n <= 2 * FILES; n++) {
+        CHECK(judge_first(&s, n) == 0);
+        CHECK(is(judge_first(&bad, n), CANOPYRAIL_END_ELSEWHERE, TRAMO, 1, 7, 0));
+    }
 }
 
 static void check_cases(void)
@@ -302,7 +359,9 @@ static void check_cases(void)
 
 static uint64_t judge_nodes(const uint8_t *nodes, size_t length)
 {
-    return canopyrail_judge(NULL, 0, NULL, 0, NULL, 0, NULL, 0, NULL, 0, NULL, 0, nodes, length);
+    canopyrail_bytes files[FILES] = {[NODO - 1] = {nodes, length}};
+
+    return canopyrail_judge(files, FILES);
 }
 
 /* A file one byte over the limit, and one of just the limit. */
@@ -335,8 +394,12 @@ static void check_beginnings(void)
 
 static void check_table(void)
 {
-    static const size_t lengths[FILES + 1] = {0, 133, 149, 144, 128, 77, 54, 50};
-    static const size_t fields[FILES + 1] = {0, 4, 13, 14, 10, 8, 8, 8};
+    static const size_t lengths[FILES + 1] = {
+        [CATALOGO] = 133, [OB_PUN] = 149, [OB_TEX] = 144, [OB_LIN] = 128, [TRAMO] = 77, [VERTICE] = 54, [NODO] = 50,
+    };
+    static const size_t fields[FILES + 1] = {
+        [CATALOGO] = 4, [OB_PUN] = 13, [OB_TEX] = 14, [OB_LIN] = 10, [TRAMO] = 8, [VERTICE] = 8, [NODO] = 8,
+    };
 
     for (size_t f = 1; f <= FILES; f++) {
         size_t at = 0;
@@ -355,6 +418,35 @@ static void check_table(void)
     CHECK(canopyrail_length(0) == 0 && canopyrail_length(8) == 0);
     CHECK(canopyrail_fields(0) == 0 && canopyrail_fields(SIZE_MAX) == 0);
     CHECK(canopyrail_offset(0, 1) == 0 && canopyrail_width(8, 1) == 0);
+}
+
+static size_t larger(size_t a, size_t b)
+{
+    return a < b ? b : a;
+}
+
+/* What the header says in numbers is what the archive was made with. */
+static void check_header(void)
+{
+    size_t fields = 0, longest = 0, text = 0;
+
+    CHECK(canopyrail_version() == CANOPYRAIL_VERSION);
+    for (size_t f = 1; canopyrail_fields(f) > 0; f++) {
+        CHECK(f <= FILES);
+        fields = larger(fields, canopyrail_fields(f));
+        longest = larger(longest, canopyrail_length(f));
+        for (size_t field = 1; field <= canopyrail_fields(f); field++)
+            if (canopyrail_form(f, field) == CANOPYRAIL_FORM_TEXT)
+                text = larger(text, canopyrail_width(f, field));
+    }
+    CHECK(canopyrail_fields(FILES) > 0);
+    CHECK(fields == CANOPYRAIL_FIELDS && longest == CANOPYRAIL_LONGEST && text == CANOPYRAIL_TEXT);
+    /* the node's id, type, sign of X, X */
+    CHECK(canopyrail_form(NODO, 1) == CANOPYRAIL_FORM_NUMBER);
+    CHECK(canopyrail_form(NODO, 2) == CANOPYRAIL_FORM_TEXT);
+    CHECK(canopyrail_form(NODO, 3) == CANOPYRAIL_FORM_SIGN);
+    CHECK(canopyrail_form(NODO, 4) == CANOPYRAIL_FORM_COORDINATE);
+    CHECK(canopyrail_form(NODO, 0) == 0 && canopyrail_form(0, 1) == 0);
 }
 
 /* ------------------------------------------------------------------------------ one record */
@@ -676,8 +768,10 @@ static void check_texts(void)
 
 static void check_all(void)
 {
+    check_header();
     check_table();
     check_accepted();
+    check_entries();
     check_cases();
     check_long_file();
     check_beginnings();

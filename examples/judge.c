@@ -17,14 +17,14 @@
 
 #include "canopyrail.h"
 
-enum { FILES = 7, ACCEPTED = 0, REFUSED = 1, FAILED = 2 };
+enum { FILES = CANOPYRAIL_FILES, ACCEPTED = 0, REFUSED = 1, FAILED = 2 };
 
 static const char *const names[FILES + 1] = {
-    "", "CATALOGO", "OB_PUN", "OB_TEX", "OB_LIN", "TRAMO", "VERTICE", "NODO",
+    [CANOPYRAIL_CATALOGO] = "CATALOGO", [CANOPYRAIL_OB_PUN] = "OB_PUN",
+    [CANOPYRAIL_OB_TEX] = "OB_TEX",     [CANOPYRAIL_OB_LIN] = "OB_LIN",
+    [CANOPYRAIL_TRAMO] = "TRAMO",       [CANOPYRAIL_VERTICE] = "VERTICE",
+    [CANOPYRAIL_NODO] = "NODO",
 };
-
-/* What a field holds, by canopyrail_form. */
-enum { TEXT = 1, SIGN = 2, NUMBER = 3, COORDINATE = 4 };
 
 /* A file in memory. No bytes are (NULL, 0). */
 typedef struct {
@@ -98,11 +98,13 @@ static size_t read_delivery(const char *directory, held delivery[FILES + 1])
 }
 
 /* The call takes up to CANOPYRAIL_STACK bytes of stack. A main thread has 8 MiB on most systems. */
-static uint64_t judge(const held d[FILES + 1])
+static uint64_t judge(const held delivery[FILES + 1])
 {
-    return canopyrail_judge(d[1].bytes, d[1].length, d[2].bytes, d[2].length, d[3].bytes,
-                            d[3].length, d[4].bytes, d[4].length, d[5].bytes, d[5].length,
-                            d[6].bytes, d[6].length, d[7].bytes, d[7].length);
+    canopyrail_bytes files[FILES];
+
+    for (size_t file = 1; file <= FILES; file++)
+        files[file - 1] = (canopyrail_bytes){delivery[file].bytes, delivery[file].length};
+    return canopyrail_judge(files, FILES);
 }
 
 static void print_line(uint64_t answer, const held delivery[FILES + 1])
@@ -138,9 +140,9 @@ static void print_value(const canopyrail_values *values, size_t field, size_t fo
 
     if (values->lengths[at] == 0)
         printf("missing");
-    else if (form == NUMBER)
+    else if (form == CANOPYRAIL_FORM_NUMBER)
         printf("%" PRIu64, values->numbers[at]);
-    else if (form == COORDINATE)
+    else if (form == CANOPYRAIL_FORM_COORDINATE)
         printf("%+" PRId64, values->coordinates[at]);
     else
         print_text(values->texts + at * CANOPYRAIL_TEXT, values->lengths[at]);
@@ -163,7 +165,7 @@ static void print_record(uint64_t answer, const held delivery[FILES + 1])
     for (size_t field = 1; field <= canopyrail_fields(file); field++) {
         size_t form = canopyrail_form(file, field);
         /* A sign has no value of its own: its coordinate has it. */
-        if (form == SIGN)
+        if (form == CANOPYRAIL_FORM_SIGN)
             continue;
         printf("%s record %zu, field %zu: ", names[file], record, field);
         print_value(&values, field, form);

@@ -11,11 +11,11 @@
 
 #include "canopyrail.h"
 
-enum { FILES = 7, PAINT = 0xA5, ROOM = 4 * CANOPYRAIL_STACK };
+enum { FILES = CANOPYRAIL_FILES, PAINT = 0xA5, ROOM = 4 * CANOPYRAIL_STACK };
 
 static const char *const names[FILES] = {"CATALOGO", "OB_PUN", "OB_TEX", "OB_LIN", "TRAMO", "VERTICE", "NODO"};
-static uint8_t *files[FILES];
-static size_t lengths[FILES];
+static uint8_t *held[FILES];
+static canopyrail_bytes files[FILES];
 static int idle;
 
 static void *judge(void *unused)
@@ -23,8 +23,7 @@ static void *judge(void *unused)
     (void)unused;
     if (idle)
         return NULL;
-    (void)canopyrail_judge(files[0], lengths[0], files[1], lengths[1], files[2], lengths[2], files[3], lengths[3], files[4], lengths[4],
-                           files[5], lengths[5], files[6], lengths[6]);
+    (void)canopyrail_judge(files, FILES);
     return NULL;
 }
 
@@ -35,9 +34,9 @@ static void load(const char *folder)
         char path[4096];
         FILE *in;
         long length;
-        free(files[i]);
-        files[i] = NULL;
-        lengths[i] = 0;
+        free(held[i]);
+        held[i] = NULL;
+        files[i] = (canopyrail_bytes){NULL, 0};
         snprintf(path, sizeof path, "%s/%s", folder, names[i]);
         in = fopen(path, "rb");
         if (in == NULL)
@@ -46,10 +45,10 @@ static void load(const char *folder)
         length = ftell(in);
         rewind(in);
         if (length > 0) {
-            files[i] = malloc((size_t)length);
-            if (files[i] == NULL || fread(files[i], 1, (size_t)length, in) != (size_t)length)
+            held[i] = malloc((size_t)length);
+            if (held[i] == NULL || fread(held[i], 1, (size_t)length, in) != (size_t)length)
                 exit(2);
-            lengths[i] = (size_t)length;
+            files[i] = (canopyrail_bytes){held[i], (size_t)length};
         }
         fclose(in);
     }
@@ -89,7 +88,7 @@ int main(int argc, char **argv)
             most = now;
     }
     for (size_t i = 0; i < FILES; i++)
-        free(files[i]);
+        free(held[i]);
     if (argc > 1)
         printf("stack of a judging: at most %zu bytes\n", most - least);
     return most - (argc > 1 ? least : 0) > CANOPYRAIL_STACK;

@@ -4,17 +4,14 @@
  * Link libcanopyrail.a (x86-64 Linux; of the C library it asks only memcpy and memset). Every call below is proved to meet its contract on every
  * input, damaged or empty, to stay within the memory that it is lent, and to end. docs/PROMISES.md says what is proved.
  *
- * The files are numbered
- *
- *     1 CATALOGO   2 OB_PUN   3 OB_TEX   4 OB_LIN   5 TRAMO   6 VERTICE   7 NODO
- *
- * and records and fields are counted from 1. Record 0 is the file as a whole, field 0 the record as a whole.
+ * The files are numbered from 1 (canopyrail_file_number below), and so are records and fields. Record 0 is the file as a whole, field 0
+ * the record as a whole.
  *
  * MEMORY. All memory is the caller's. It is lent for the time of the call: nothing is kept between calls, nothing is allocated, there
  * is no state. So every call is reentrant, and several threads may call at once. Memory passed as `const` is only read. Memory to be
  * written must not overlap any other memory of the same call. A length counts elements, not bytes.
  *
- * NULL AND ALIGNMENT. A pointer with length 0 is never followed and may be null: an absent or empty file is (NULL, 0). Any other
+ * NULL AND ALIGNMENT. A pointer with length 0 is never followed and may be null: an absent or empty file is {NULL, 0}. Any other
  * pointer must be valid for its length and aligned as C aligns its type (bytes need none). No length may pass PTRDIFF_MAX bytes.
  *
  * STACK. canopyrail_judge takes up to CANOPYRAIL_STACK bytes of stack, whatever the files' sizes (docs/BENCHMARKS.md has the
@@ -34,6 +31,24 @@
 extern "C" {
 #endif
 
+/* The version of this header, and as one number; canopyrail_version() tells the archive's. */
+#define CANOPYRAIL_VERSION_MAJOR 0
+#define CANOPYRAIL_VERSION_MINOR 2
+#define CANOPYRAIL_VERSION_PATCH 0
+#define CANOPYRAIL_VERSION (CANOPYRAIL_VERSION_MAJOR * 10000 + CANOPYRAIL_VERSION_MINOR * 100 + CANOPYRAIL_VERSION_PATCH)
+
+/* How many files a delivery has, and their numbers. */
+#define CANOPYRAIL_FILES 7
+enum canopyrail_file_number {
+    CANOPYRAIL_CATALOGO = 1,
+    CANOPYRAIL_OB_PUN = 2,
+    CANOPYRAIL_OB_TEX = 3,
+    CANOPYRAIL_OB_LIN = 4,
+    CANOPYRAIL_TRAMO = 5,
+    CANOPYRAIL_VERTICE = 6,
+    CANOPYRAIL_NODO = 7
+};
+
 /* At most so many records a file; a longer file is refused with reason 10. */
 #define CANOPYRAIL_RECORDS 16384
 /* The most fields a record has, the bytes of the longest text, and the bytes of the longest record. */
@@ -47,7 +62,7 @@ extern "C" {
  * THE REASONS. Of all the breaks of a delivery the first is told: the least by tens of the reason, then file, record, field, reason.
  * A rule of a higher ten is read only where no lower ten is broken.
  */
-enum {
+enum canopyrail_reason_number {
     CANOPYRAIL_FINE = 0,
     CANOPYRAIL_LONG_FILE = 10,        /* file longer than 16,384 records' bytes: record 0, field 0 */
     CANOPYRAIL_RAGGED_FILE = 11,      /* length no multiple of the record length: whole records plus 1, field 0 */
@@ -79,17 +94,22 @@ enum {
     CANOPYRAIL_NO_SUCH_RECORD = 66    /* reading: the record number is 0 or above the whole records in hand: field 0 */
 };
 
+/* The version of the archive that is linked: CANOPYRAIL_VERSION where header and archive belong together. */
+uint64_t canopyrail_version(void);
+
+/* A file's bytes, lent. */
+typedef struct canopyrail_bytes {
+    const uint8_t *bytes;
+    size_t len;
+} canopyrail_bytes;
+
 /*
- * Judges a delivery: the bytes of its seven files, in any state. 0 if no rule is broken; else the first break.
- * The counts of an accepted delivery are canopyrail_count of each file.
+ * Judges a delivery: the bytes of its files, in any state, in the order of their numbers, and how many entries there are. 0 if no rule
+ * is broken; else the first break. The counts of an accepted delivery are canopyrail_count of each file.
+ *
+ * Files past the n-th entry are empty, so (NULL, 0) is a delivery of empty files; entries past CANOPYRAIL_FILES are not looked at.
  */
-uint64_t canopyrail_judge(const uint8_t *catalogo, size_t catalogo_len,
-                          const uint8_t *ob_pun, size_t ob_pun_len,
-                          const uint8_t *ob_tex, size_t ob_tex_len,
-                          const uint8_t *ob_lin, size_t ob_lin_len,
-                          const uint8_t *tramo, size_t tramo_len,
-                          const uint8_t *vertice, size_t vertice_len,
-                          const uint8_t *nodo, size_t nodo_len);
+uint64_t canopyrail_judge(const canopyrail_bytes *files, size_t n);
 
 /* An answer taken apart: the reason's number, the place, and what else the reason tells (0 where it tells nothing else). */
 uint64_t canopyrail_reason(uint64_t answer);
@@ -101,9 +121,17 @@ uint64_t canopyrail_other(uint64_t answer);
 /* The number of whole records in a file's bytes; 0 where there is no file of the number. */
 size_t canopyrail_count(size_t file, const uint8_t *bytes, size_t len);
 
+/* What a field holds. */
+enum canopyrail_form_number {
+    CANOPYRAIL_FORM_TEXT = 1,
+    CANOPYRAIL_FORM_SIGN = 2,         /* a coordinate's sign: its digits are the next field */
+    CANOPYRAIL_FORM_NUMBER = 3,
+    CANOPYRAIL_FORM_COORDINATE = 4    /* a coordinate's digits */
+};
+
 /*
- * The table of the files: fields and bytes of a record; of a field where it begins (the bytes before it), its width, and what it holds:
- * 1 a text, 2 a coordinate's sign, 3 a number, 4 a coordinate's digits. 0 of no file and of no field.
+ * The table of the files: fields and bytes of a record; of a field where it begins (the bytes before it), its width, and its form.
+ * 0 of no file and of no field.
  */
 size_t canopyrail_fields(size_t file);
 size_t canopyrail_length(size_t file);

@@ -5,6 +5,8 @@
 //! call only borrows, keeps nothing, and writes nothing but memory that is passed here as `&mut`,
 //! which overlaps no other.
 
+/// How many files a delivery has.
+pub const FILES: usize = 7;
 /// The most fields a record has.
 pub const FIELDS: usize = 14;
 /// The bytes of the longest text.
@@ -30,6 +32,13 @@ impl Lent {
     }
 }
 
+/// A file's bytes as the call takes them: `canopyrail_bytes` of the header.
+#[repr(C)]
+struct Bytes {
+    bytes: *const u8,
+    len: usize,
+}
+
 /// An answer taken apart. Reason 0 says that nothing is wrong.
 pub struct Parts {
     pub reason: u64,
@@ -41,15 +50,8 @@ pub struct Parts {
 
 #[rustfmt::skip]
 extern "C" {
-    fn canopyrail_judge(
-        catalogo: *const u8, catalogo_len: usize,
-        ob_pun: *const u8, ob_pun_len: usize,
-        ob_tex: *const u8, ob_tex_len: usize,
-        ob_lin: *const u8, ob_lin_len: usize,
-        tramo: *const u8, tramo_len: usize,
-        vertice: *const u8, vertice_len: usize,
-        nodo: *const u8, nodo_len: usize,
-    ) -> u64;
+    fn canopyrail_version() -> u64;
+    fn canopyrail_judge(files: *const Bytes, n: usize) -> u64;
     fn canopyrail_reason(answer: u64) -> u64;
     fn canopyrail_file(answer: u64) -> u64;
     fn canopyrail_record(answer: u64) -> u64;
@@ -78,21 +80,19 @@ extern "C" {
     ) -> u64;
 }
 
-#[rustfmt::skip]
-pub fn judge(files: &[&[u8]; 7]) -> u64 {
-    let [catalogo, ob_pun, ob_tex, ob_lin, tramo, vertice, nodo] = *files;
-    // SAFETY: seven slices, each with its own length; the call only reads them.
-    unsafe {
-        canopyrail_judge(
-            catalogo.as_ptr(), catalogo.len(),
-            ob_pun.as_ptr(), ob_pun.len(),
-            ob_tex.as_ptr(), ob_tex.len(),
-            ob_lin.as_ptr(), ob_lin.len(),
-            tramo.as_ptr(), tramo.len(),
-            vertice.as_ptr(), vertice.len(),
-            nodo.as_ptr(), nodo.len(),
-        )
-    }
+pub fn version() -> u64 {
+    // SAFETY: a number is answered; no memory is lent.
+    unsafe { canopyrail_version() }
+}
+
+pub fn judge(files: &[&[u8]; FILES]) -> u64 {
+    let lent = files.map(|file| Bytes {
+        bytes: file.as_ptr(),
+        len: file.len(),
+    });
+    // SAFETY: an array with its length, and in it slices, each with its own; the call only reads
+    // them.
+    unsafe { canopyrail_judge(lent.as_ptr(), lent.len()) }
 }
 
 pub fn parts(answer: u64) -> Parts {

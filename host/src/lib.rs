@@ -9,7 +9,7 @@
 //!
 //! ```no_run
 //! let nodo = std::fs::read("NODO").unwrap();
-//! let files: [&[u8]; 7] = [&[], &[], &[], &[], &[], &[], &nodo];
+//! let files: [&[u8]; canopyrail::FILES] = [&[], &[], &[], &[], &[], &[], &nodo];
 //! print!("{}", canopyrail::line(&canopyrail::judge(files)));
 //! ```
 #![deny(unsafe_code)]
@@ -22,6 +22,8 @@ pub mod words;
 
 use names::Form;
 
+/// How many files a delivery has.
+pub const FILES: usize = calls::FILES;
 /// At most so many records a file; a longer file is refused with reason 10.
 pub const RECORDS: usize = 16_384;
 /// The most fields a record has.
@@ -53,7 +55,7 @@ pub struct Break {
 #[derive(Clone, Copy, Debug, PartialEq, Eq)]
 pub enum Verdict {
     /// No rule is broken; the records of each file.
-    Accepted([usize; 7]),
+    Accepted([usize; FILES]),
     /// The first break in the fixed order.
     Broken(Break),
 }
@@ -83,12 +85,17 @@ pub enum Value {
     Text(Vec<u8>),
 }
 
+/// The version of the library that is linked: major * 10000 + minor * 100 + patch.
+pub fn version() -> u64 {
+    calls::version()
+}
+
 /// Judges a delivery by the bytes of its seven files, in any state; an absent file is an empty one.
 ///
 /// It runs on the caller's thread, which must have [`STACK`] bytes (4 MiB) of stack left. The main
 /// thread usually has 8 MiB. A thread made by [`std::thread::spawn`] has 2 MiB unless told
 /// otherwise: make one that judges with `std::thread::Builder::new().stack_size(16 << 20)`.
-pub fn judge(files: [&[u8]; 7]) -> Verdict {
+pub fn judge(files: [&[u8]; FILES]) -> Verdict {
     let found = calls::parts(calls::judge(&files));
     if found.reason == 0 {
         return Verdict::Accepted(counts(files));
@@ -103,8 +110,8 @@ pub fn judge(files: [&[u8]; 7]) -> Verdict {
     })
 }
 
-fn counts(files: [&[u8]; 7]) -> [usize; 7] {
-    let mut counts = [0; 7];
+fn counts(files: [&[u8]; FILES]) -> [usize; FILES] {
+    let mut counts = [0; FILES];
     for (place, bytes) in files.iter().enumerate() {
         counts[place] = count(place + 1, bytes);
     }

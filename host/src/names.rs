@@ -6,21 +6,21 @@
 use crate::calls;
 
 /// The seven files by name; file n is `FILES[n - 1]`.
-pub const FILES: [&str; 7] = [
+pub const FILES: [&str; calls::FILES] = [
     "CATALOGO", "OB_PUN", "OB_TEX", "OB_LIN", "TRAMO", "VERTICE", "NODO",
 ];
 
-/// What a field holds.
+/// What a field holds, under the header's number.
 #[derive(Clone, Copy, Debug, PartialEq, Eq)]
 pub enum Form {
-    /// An N field: digits, or all blanks.
-    Number,
     /// An A field that is no coordinate's sign.
-    Text,
+    Text = 1,
     /// The sign of the coordinate whose digits are the next field.
-    Sign,
+    Sign = 2,
+    /// An N field: digits, or all blanks.
+    Number = 3,
     /// The digits of a coordinate whose sign is the field before.
-    Coordinate,
+    Coordinate = 4,
 }
 
 struct Field {
@@ -180,11 +180,7 @@ pub fn meaning(file: usize, field: usize) -> &'static str {
 
 /// The form of a field, if there is such a field.
 pub fn form(file: usize, field: usize) -> Option<Form> {
-    match calls::form(file, field) {
-        1 => Some(Form::Text),
-        2 => Some(Form::Sign),
-        3 => Some(Form::Number),
-        4 => Some(Form::Coordinate),
-        _ => None,
-    }
+    let forms = [Form::Text, Form::Sign, Form::Number, Form::Coordinate];
+    let number = calls::form(file, field);
+    forms.into_iter().find(|form| *form as usize == number)
 }
