@@ -4,7 +4,7 @@ use Prim.Native.Nat.{ℕ, zero, suc, _+_, _*_, _-_, _/_, _%_, _≤_, _<_}
 use mathlib.Core.Bool.{Bool, true, false, _&&_}
 use mathlib.Core.List.{List, [], _∷_}
 use mathlib.Core.Path.{_≡_, refl, sym, ap, subst}
-use native.Mathlib.Nat.{min-le-left, eq-or-lt-of-le}
+use native.Mathlib.Nat.{min-le-left, eq-or-lt-of-le, div-lt-iff-lt-mul}
 use mathlib.Core.Logic.{_⊎_, inl, inr, ⊎-elim}
 use native.Mathlib.Omega.{arith}
 use lib.Dec.{eqb, ltb, leb}
@@ -15,7 +15,6 @@ use Rattle.laws.specs.Row.{pick}
 use Rattle.laws.proofs.RowLaws.{and-true}
 use Rattle.laws.proofs.FindLaws.{true-false}
 use Rattle.record.specs.declared.kind.Kind.{Kind}
-use Rattle.record.specs.declared.kind.Kind.the-variants.{Catalogo, ObPun, ObTex, ObLin, Tramo, Vertice, Nodo}
 use Rattle.record.specs.declared.reason.Break.{Break}
 use Rattle.record.specs.declared.reason.Finding.{Finding}
 use Rattle.record.specs.declared.reason.Finding.the-variants.{Broken}
@@ -37,13 +36,11 @@ use Rattle.judge.proofs.Exact.{exact}
 -- a file that is not too long has at most 16,384 records
 count-small : (s : List ℕ) (k : Kind) → breaks10 s k ≡ false → countOf s k ≤ 16384
 unfolding breaks10 countOf
-count-small s Catalogo e = let l = ltb-false (16384 * 133) (length s) e in omega arith
-count-small s ObPun e = let l = ltb-false (16384 * 149) (length s) e in omega arith
-count-small s ObTex e = let l = ltb-false (16384 * 144) (length s) e in omega arith
-count-small s ObLin e = let l = ltb-false (16384 * 128) (length s) e in omega arith
-count-small s Tramo e = let l = ltb-false (16384 * 77) (length s) e in omega arith
-count-small s Vertice e = let l = ltb-false (16384 * 54) (length s) e in omega arith
-count-small s Nodo e = let l = ltb-false (16384 * 50) (length s) e in omega arith
+count-small s k e =
+    let l = ltb-false (limit * lengthOf k) (length s) e in
+    let u : length s < (limit + 1) * lengthOf k = omega (arith, sane k) in
+    let v : length s / lengthOf k < limit + 1 = div-lt-iff-lt-mul {k = lengthOf k} (omega (arith, sane k)) .1 u in
+    omega arith
 
 -- WHERE SOMETHING IS BROKEN: the tens of the reason bound the record and the field
 module _ (s : List ℕ) (k : Kind) (n i f : ℕ) where
