@@ -48,13 +48,13 @@ map-set f [] i x = refl
 map-set f (y ∷ l) zero x = refl
 map-set {B = B} f (y ∷ l) (suc i) x = ap (λ (zs : List B). f y ∷ zs) (map-set f l i x)
 
-pub files-more : {A B : Type 0} (f : A → B) (g : ℕ → B) (i : ℕ) (l : List A) (x : A) → i < length l → take i (map f l) ≡ row g i → f x ≡ g i
+pub lent-more : {A B : Type 0} (f : A → B) (g : ℕ → B) (i : ℕ) (l : List A) (x : A) → i < length l → take i (map f l) ≡ row g i → f x ≡ g i
     → take (i + 1) (map f (set l i x)) ≡ row g (i + 1)
-files-more f g i l x h e q = rw (map-set f l i x) (row-more g i (map f l) (f x) (rw length-map h) e q)
+lent-more f g i l x h e q = rw (map-set f l i x) (row-more g i (map f l) (f x) (rw length-map h) e q)
 
-pub files-end : (all files : List (List ℕ)) {n : ℕ} → length all ≡ fileCount → n ≤ fileCount → fileCount ≤ n → take n all ≡ row (λ i. getD files i []) n → filesOf all ≡ filesOf files
+pub lent-end : (all files : List (List ℕ)) {n : ℕ} → length all ≡ fileCount → n ≤ fileCount → fileCount ≤ n → take n all ≡ row (λ i. getD files i []) n → filesOf all ≡ filesOf files
 unfolding filesOf
-files-end all files l u v e =
+lent-end all files l u v e =
     fun-ext (λ k. rw (row-end (λ i. getD files i []) all l u v e) (row-at (λ i. getD files i []) fileCount [] (omega (arith, sane k))))
 
 -- where there is none, nothing is wrong

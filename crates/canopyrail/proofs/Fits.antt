@@ -15,7 +15,6 @@ use Rattle.laws.specs.Row.{pick}
 use Rattle.laws.proofs.RowLaws.{and-true}
 use Rattle.laws.proofs.FindLaws.{true-false}
 use Rattle.record.specs.declared.kind.Kind.{Kind}
-use Rattle.record.specs.declared.kind.Kind.the-variants.{Catalogo, ObPun, ObTex, ObLin, Tramo, Vertice, Nodo}
 use Rattle.record.specs.declared.reason.Break.{Break}
 use Rattle.record.specs.declared.reason.Finding.{Finding}
 use Rattle.record.specs.declared.reason.Finding.the-variants.{Broken}

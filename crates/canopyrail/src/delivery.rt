@@ -26,20 +26,8 @@ fn file_at<'a, 'b>(files: &'b [&'a [u8]], spare: &'a [u8], n: usize) -> &'a [u8]
     }
 }
 
-// A file for each kind: those past the last kind are not looked at.
-fn first_files<'a, 'b>(files: &'b [&'a [u8]], spare: &'a [u8]) -> [&'a [u8]; FILES]
-    ensures { λ r. ⌜ filesOf (map now r) ≡ filesOf (map now (now (files .entry))) ⌝ }
-{
-    let mut all = [spare; FILES];
-    let mut n = 0;
-    while n < FILES {
-        all[n] = file_at(files, spare, n);
-        n += 1;
-    }
-    all
-}
-
-// Judges the files of a delivery, in any state, in the order of their numbers. An absent one is empty, and so are those past the end.
+// Judges the files of a delivery, in any state, in the order of their numbers. An absent one is empty, and so are those past the end
+// of the slice; what the slice has past the last kind is not looked at.
 #[no_mangle]
 pub extern "C" fn canopyrail_judge<'a, 'b>(files: &'b [&'a [u8]]) -> u64
     ensures { λ r. ⌜ r ≡ findingWord (judged (filesOf (map now (now (files .entry))))) ⌝ }
@@ -47,7 +35,14 @@ pub extern "C" fn canopyrail_judge<'a, 'b>(files: &'b [&'a [u8]]) -> u64
     if files.len() == 0 {
         return 0;
     }
-    let v = judge(first_files(files, files[0]));
+    let spare = files[0];
+    let mut all = [spare; FILES];
+    let mut n = 0;
+    while n < FILES {
+        all[n] = file_at(files, spare, n);
+        n += 1;
+    }
+    let v = judge(all);
     let finding = v.finding;
     finding_word(finding)
 }

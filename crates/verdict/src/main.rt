@@ -44,16 +44,21 @@ fn load(name: &[u8], buf: &mut [u8]) -> usize {
     len
 }
 
-// Says what is to be said of files that were read: of each its length, and the room that it stands in.
-fn say<'a>(lens: [usize; FILES], rooms: [&'a [u8]; FILES]) {
-    let mut files = rooms;
-    let mut n = 0;
-    while n < FILES {
-        if lens[n] == FAILED {
-            return;
+fn any_failed(lens: [usize; FILES]) -> bool {
+    let mut i = 0;
+    while i < FILES {
+        if lens[i] == FAILED {
+            return true;
         }
-        files[n] = part(rooms[n], 0, lens[n]);
-        n += 1;
+        i += 1;
+    }
+    false
+}
+
+// Says what is to be said of files, and nothing where one was not read.
+fn say<'a>(lens: [usize; FILES], files: [&'a [u8]; FILES]) {
+    if any_failed(lens) {
+        return;
     }
     let line = program_line(files);
     let bytes = line.bytes;
@@ -77,16 +82,14 @@ fn main() {
         load(b"VERTICE", &mut vertice),
         load(b"NODO", &mut nodo),
     ];
-    say(
-        lens,
-        [
-            &catalogo,
-            &ob_pun,
-            &ob_tex,
-            &ob_lin,
-            &tramo,
-            &vertice,
-            &nodo,
-        ],
-    );
+    let files = [
+        part(&catalogo, 0, lens[0]),
+        part(&ob_pun, 0, lens[1]),
+        part(&ob_tex, 0, lens[2]),
+        part(&ob_lin, 0, lens[3]),
+        part(&tramo, 0, lens[4]),
+        part(&vertice, 0, lens[5]),
+        part(&nodo, 0, lens[6]),
+    ];
+    say(lens, files);
 }
