@@ -1,3 +1,4 @@
 pub mod CallLaws
+pub mod LentLaws
 pub mod Fits
 pub mod Promises

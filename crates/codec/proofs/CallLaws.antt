@@ -37,7 +37,7 @@ use Rattle.codec.specs.Values.{valueAt, valuesSay, valuesIn}
 use Rattle.codec.specs.Writes.{encode}
 use Rattle.codec.specs.Refusals.{sixties, valuesFinding}
 use Rattle.codec.specs.Calls.{answerOf, noReading, readFound, readIn, readOf, answerIn, roomAfter, roomAs, Writes}
-use Rattle.codec.proofs.JoinLaws.{length-encode}
+use Rattle.codec.proofs.EncodeLaws.{length-encode}
 use Rattle.codec.proofs.AllFalse.{First, record-first, values-first}
 use Rattle.codec.proofs.Out.{values-shaped, written-lawful}
 use Rattle.codec.proofs.In.{encode-same, finding-same, same-bytes, read-writable, values-say}

@@ -30,7 +30,8 @@ use Rattle.record.proofs.TableLaws.{sane, widths, DomainFits, domain-fits, with
 use Rattle.codec.specs.Values.{noValue, saidBy, valueOf, valueAt, valuesSay, valuesIn}
 use Rattle.codec.specs.Writes.{bytesAs, fieldBytes, joined, encode}
 use Rattle.codec.specs.Refusals.{tooLarge, badSaid, blankAs, blankAt, missingAs, partnersMissing, refuses62, refuses63, refuses64, refuses65, sixties, sixtyReasons, valueBreaks, valuesFinding}
-use Rattle.codec.proofs.JoinLaws.{sign-wide, sign-next, sign-field, sign-partner, pair-partners, partners-within, joined-cut}
+use Rattle.codec.proofs.JoinLaws.{sign-wide, sign-next, sign-field, sign-partner, pair-partners, partners-within}
+use Rattle.codec.proofs.EncodeLaws.{joined-cut}
 use Rattle.codec.proofs.AllFalse.{record-fine, values-fine}
 use Rattle.codec.proofs.InFields.{Kept, kept, was-missing, not-outside, sign-kept, value-says, heard, blank-own, sign-or, missing-blank, sign-there}
 

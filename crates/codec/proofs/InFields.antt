@@ -30,7 +30,7 @@ use Rattle.record.specs.Rules.{notNumber, notText, missingIn, inDomain, outside
 use Rattle.record.specs.Says.{Said, missing, number, text, coordinate, textSaid, saidAs, isMissing}
 use Rattle.record.proofs.TableLaws.{DomainFits}
 use Rattle.record.proofs.PackedLaws.{form-digit}
-use Rattle.record.proofs.SaysLaws.{domain-first}
+use Rattle.record.proofs.RuleLaws.{domain-first}
 use Rattle.codec.specs.Values.{valueOf, saidBy, textBy, textValue}
 use Rattle.codec.specs.Writes.{bytesAs, textBytes, numberBytes, signBytes}
 use Rattle.codec.specs.Refusals.{tooLarge, badText, badSaid, blankAs, missingAs, outsideSaid}

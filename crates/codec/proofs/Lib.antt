@@ -1,5 +1,6 @@
 pub mod Shapes
 pub mod JoinLaws
+pub mod EncodeLaws
 pub mod AllFalse
 pub mod OutFields
 pub mod Out

@@ -34,7 +34,8 @@ use Rattle.codec.specs.Values.{saidBy, textBy, valueAt, valuesSay}
 use Rattle.codec.specs.Writes.{numberBytes, signBytes, bytesAs, fieldBytes, encode}
 use Rattle.codec.specs.Refusals.{tooLarge, badText, badSaid, refuses62, refuses63, refuses64, refuses65, blankAt, missingAs, partnersMissing, sixties, valuesFinding}
 use Rattle.codec.proofs.Shapes.{isTextual, shaped}
-use Rattle.codec.proofs.JoinLaws.{wide, sign-wide, sign-next, sign-field, size-before, pair-partners, partners-within, text-encode, bar-encode, end-encode}
+use Rattle.codec.proofs.JoinLaws.{wide, sign-wide, sign-next, sign-field, size-before, pair-partners, partners-within}
+use Rattle.codec.proofs.EncodeLaws.{text-encode, bar-encode, end-encode}
 use Rattle.codec.proofs.AllFalse.{record-fine, values-fine}
 use Rattle.codec.proofs.OutFields.{Sayable, out-number, out-text, out-blank, out-missing, out-inside, out-said}
 

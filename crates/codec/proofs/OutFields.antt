@@ -29,7 +29,7 @@ use Rattle.record.specs.Table.{isN}
 use Rattle.record.specs.Rules.{notNumber, notText, missingIn, isSignByte, inDomain, outside}
 use Rattle.record.specs.Says.{Said, missing, number, text, coordinate, isMissing, textSaid, saidAs}
 use Rattle.record.proofs.TableLaws.{DomainFits}
-use Rattle.record.proofs.SaysLaws.{domain-first}
+use Rattle.record.proofs.RuleLaws.{domain-first}
 use Rattle.codec.specs.Writes.{numberBytes, signBytes, textBytes, bytesAs}
 use Rattle.codec.specs.Refusals.{tooLarge, badText, badSaid, saysNotGiven, blankAs, missingAs, outsideSaid}
 use Rattle.codec.proofs.Shapes.{isTextual, isNothing, isNumeric, isPlaced, shaped}

@@ -31,7 +31,8 @@ use Rattle.record.specs.Table.{colAt, formAt, widthAt, mustAt, backAt, aheadAt,
 use Rattle.record.specs.Rules.{inDomain}
 use Rattle.record.specs.Breaks.{atPlace, findingOf}
 use Rattle.record.specs.Says.{Said, missing, number, text, coordinate, isMissing}
-use Rattle.record.proofs.SaysLaws.{Among, texts, domain-first}
+use Rattle.record.proofs.SaysLaws.{Among, texts}
+use Rattle.record.proofs.RuleLaws.{domain-first}
 use Rattle.record.proofs.TableLaws.{sane, col-past}
 use Rattle.codec.specs.declared.values.Value.{Value}
 use Rattle.codec.specs.declared.values.Values.{Values}

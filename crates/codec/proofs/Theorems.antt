@@ -26,7 +26,7 @@ use Rattle.codec.specs.Values.{valuesSay}
 use Rattle.codec.specs.Writes.{encode}
 use Rattle.codec.specs.Refusals.{sixties}
 use Rattle.codec.specs.Calls.{answerOf, readOf, answerAs, roomAs, Writes}
-use Rattle.codec.proofs.JoinLaws.{length-encode}
+use Rattle.codec.proofs.EncodeLaws.{length-encode}
 use Rattle.codec.proofs.AllFalse.{record-fine, values-fine}
 use Rattle.codec.proofs.Out.{values-shaped, said-back}
 use Rattle.codec.proofs.In.{encode-same, finding-same, values-say}

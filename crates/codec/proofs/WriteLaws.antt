@@ -40,7 +40,8 @@ use Rattle.codec.specs.Values.{textBy, saidBy, valueAt, valuesSay}
 use Rattle.codec.specs.Writes.{numberBytes, textBytes, bytesAs, fieldBytes, ending, joined, fieldsBytes, encode}
 use Rattle.codec.specs.Refusals.{valuesFinding}
 use Rattle.codec.specs.Calls.{Writes, answerOf, answerIn, roomAfter}
-use Rattle.codec.proofs.JoinLaws.{length-encode, sign-next, offset-one, offset-after, offset-last, row-one, joined-next, joined-end, ending-bar, ending-last}
+use Rattle.codec.proofs.EncodeLaws.{length-encode}
+use Rattle.codec.proofs.JoinLaws.{sign-next, offset-one, offset-after, offset-last, row-one, joined-next, joined-end, ending-bar, ending-last}
 use Rattle.codec.proofs.InFields.{heard}
 
 -- A FIELD, by its form

@@ -24,7 +24,7 @@ use Rattle.codec.specs.declared.values.Values.{Values}
 use Rattle.codec.specs.Values.{valueAt, valuesSay}
 use Rattle.codec.specs.Writes.{encode}
 use Rattle.codec.specs.Refusals.{valuesFinding}
-use Rattle.codec.proofs.JoinLaws.{length-encode}
+use Rattle.codec.proofs.EncodeLaws.{length-encode}
 use Rattle.codec.proofs.Out.{values-shaped, written-lawful, said-back}
 use Rattle.judge.specs.Obeys.{noValues, writtenOf}
 use Rattle.judge.proofs.NoneBroken.{fields-fine}

@@ -2,6 +2,8 @@ pub mod FoundLaws
 pub mod RepeatLaws
 pub mod ReferLaws
 pub mod CellLaws
+pub mod OverLaws
+pub mod KeyCells
 pub mod GroupMeaning
 pub mod Shown
 pub mod Agree

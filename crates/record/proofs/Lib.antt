@@ -3,9 +3,13 @@ pub mod PackedLaws
 pub mod FileLaws
 pub mod CutLaws
 pub mod SaysLaws
+pub mod KeyLaws
+pub mod RuleLaws
 pub mod NameLaws
 pub mod ColumnLaws
 pub mod FindingLaws
 pub mod GlanceLaws
+pub mod GlancePlaces
+pub mod GlanceSeen
 pub mod Claims
 pub mod Meaning

@@ -25,7 +25,7 @@ use Rattle.record.proofs.TableLaws.{NoneOf, kind-at}
 use Rattle.record.specs.Says.{Table}
 use Rattle.record.specs.Files.{Delivery}
 use Rattle.keys.specs.Rules.{orFirst}
-use Rattle.keys.proofs.CellLaws.{first-false}
+use Rattle.keys.proofs.KeyCells.{first-false}
 use Rattle.topology.specs.machinery.Places.{orIndex}
 use Rattle.topology.specs.Rules.{isAt, samePlace, breaks50, breaks51, breaks52, breaks53, breaks54, breaks55, breaks56, breaks57, breaks59, fifties, reasonsAt}
 

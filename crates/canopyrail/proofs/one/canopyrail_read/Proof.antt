@@ -1,7 +1,7 @@
 -- `canopyrail::one::canopyrail_read` meets its contract.
 -- Assumes nothing.
 use mathlib.Core.Path.{sym, _∙_}
-use Rattle.canopyrail.proofs.CallLaws.{roomy-says, reads-refused, reads-done, reads-no-room}
+use Rattle.canopyrail.proofs.LentLaws.{roomy-says, reads-refused, reads-done, reads-no-room}
 use borrow.Author.Needs.{needs}
 use Rattle.canopyrail.proofs.one.canopyrail_read.Statement.{statement}
 use Rattle.canopyrail.proofs.one.canopyrail_read.Tie as tie

@@ -1,6 +1,6 @@
 -- `canopyrail::one::canopyrail_write` meets its contract.
 -- Assumes nothing.
-use Rattle.canopyrail.proofs.CallLaws.{lent-writes}
+use Rattle.canopyrail.proofs.LentLaws.{lent-writes}
 use borrow.Author.Needs.{needs}
 use Rattle.canopyrail.proofs.one.canopyrail_write.Statement.{statement}
 use Rattle.canopyrail.proofs.one.canopyrail_write.Tie as tie

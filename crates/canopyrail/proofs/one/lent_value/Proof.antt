@@ -4,7 +4,7 @@ use mathlib.Core.Path.{_∙_}
 use mir.Facts.{toZ-ofZ}
 use mir.Syntax.{w64}
 use mir.Val.{SFits}
-use Rattle.canopyrail.proofs.CallLaws.{value-lent}
+use Rattle.canopyrail.proofs.LentLaws.{value-lent}
 use borrow.Author.Needs.{needs}
 use Rattle.canopyrail.proofs.one.lent_value.Statement.{statement}
 use Rattle.canopyrail.proofs.one.lent_value.Tie as tie

@@ -3,7 +3,7 @@
 use Prim.Native.Nat.{_-_}
 use borrow.Author.Needs.{needs}
 use Rattle.record.specs.Table.{mostFields}
-use Rattle.canopyrail.proofs.CallLaws.{Storing, storing-start, storing-more, storing-end}
+use Rattle.canopyrail.proofs.LentLaws.{Storing, storing-start, storing-more, storing-end}
 use Rattle.canopyrail.proofs.one.put_values.Statement.{statement}
 use Rattle.canopyrail.proofs.one.put_values.Tie as tie
 

@@ -6,7 +6,7 @@ use denote.Ref.{now}
 use borrow.Author.Needs.{needs}
 use Rattle.record.specs.Table.{fileCount}
 use Rattle.record.specs.Files.{filesOf}
-use Rattle.keys.proofs.CellLaws.{Onward, files-start, files-more, files-here, files-end}
+use Rattle.keys.proofs.OverLaws.{Onward, files-start, files-more, files-here, files-end}
 use Rattle.judge.proofs.JudgeLaws.{bytesIn}
 use Rattle.judge.proofs.judge.check_files.Statement.{statement}
 use Rattle.judge.proofs.judge.check_files.Tie as tie

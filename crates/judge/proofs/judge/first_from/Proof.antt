@@ -5,7 +5,7 @@ use mathlib.Core.List.{map}
 use denote.Ref.{now}
 use borrow.Author.Needs.{needs}
 use Rattle.record.specs.Files.{filesOf}
-use Rattle.keys.proofs.CellLaws.{Fines, fines-from, fines-more, fines-here, fines-end}
+use Rattle.keys.proofs.OverLaws.{Fines, fines-from, fines-more, fines-here, fines-end}
 use Rattle.judge.specs.Verdict.{groupAt}
 use Rattle.judge.proofs.judge.first_from.Statement.{statement}
 use Rattle.judge.proofs.judge.first_from.Tie as tie

@@ -2,7 +2,7 @@
 -- Assumes nothing.
 use mathlib.Core.Path.{sym, _∙_}
 use borrow.Author.Needs.{needs}
-use Rattle.keys.proofs.CellLaws.{first-30, first-30-else}
+use Rattle.keys.proofs.KeyCells.{first-30, first-30-else}
 use Rattle.keys.proofs.group.first_30.Statement.{statement}
 use Rattle.keys.proofs.group.first_30.Tie as tie
 

@@ -1,7 +1,7 @@
 -- `keys::group::first_40` meets its contract, by what the field refers to.
 -- Assumes nothing.
 use borrow.Author.Needs.{needs}
-use Rattle.keys.proofs.CellLaws.{first-40-free, first-40-nowhere, first-40-to}
+use Rattle.keys.proofs.KeyCells.{first-40-free, first-40-nowhere, first-40-to}
 use Rattle.keys.proofs.group.first_40.Statement.{statement}
 use Rattle.keys.proofs.group.first_40.Tie as tie
 

@@ -2,7 +2,7 @@
 -- Assumes nothing.
 use mathlib.Core.Path.{sym, _∙_}
 use borrow.Author.Needs.{needs}
-use Rattle.keys.proofs.CellLaws.{first-41, first-41-else}
+use Rattle.keys.proofs.KeyCells.{first-41, first-41-else}
 use Rattle.keys.proofs.group.first_41.Statement.{statement}
 use Rattle.keys.proofs.group.first_41.Tie as tie
 

@@ -2,7 +2,7 @@
 -- Assumes nothing.
 use borrow.Author.Needs.{needs}
 use Rattle.keys.specs.Rules.{keyTests}
-use Rattle.keys.proofs.CellLaws.{in-cell, in-other, other-3, other-4, other-ten}
+use Rattle.keys.proofs.KeyCells.{in-cell, in-other, other-3, other-4, other-ten}
 use Rattle.keys.proofs.group.first_in.Statement.{statement}
 use Rattle.keys.proofs.group.first_in.Tie as tie
 

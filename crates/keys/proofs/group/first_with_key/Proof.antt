@@ -7,7 +7,7 @@ use borrow.Author.Needs.{needs}
 use Rattle.record.specs.Says.{tableOf}
 use Rattle.record.specs.Names.{keyOf}
 use Rattle.keys.proofs.FoundLaws.{Passed, found-start}
-use Rattle.keys.proofs.CellLaws.{named-here, named-more, named-end}
+use Rattle.keys.proofs.KeyCells.{named-here, named-more, named-end}
 use Rattle.keys.proofs.group.first_with_key.Statement.{statement}
 use Rattle.keys.proofs.group.first_with_key.Tie as tie
 

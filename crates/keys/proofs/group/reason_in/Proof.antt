@@ -5,7 +5,7 @@ use denote.Ref.{now}
 use borrow.Author.Needs.{needs}
 use Rattle.record.specs.Says.{tableOf}
 use Rattle.record.specs.Names.{keyOf}
-use Rattle.keys.proofs.CellLaws.{named-under, reason-30, reason-40, reason-41, reason-other, other-3, other-4, other-ten}
+use Rattle.keys.proofs.KeyCells.{named-under, reason-30, reason-40, reason-41, reason-other, other-3, other-4, other-ten}
 use Rattle.keys.proofs.group.reason_in.Statement.{statement}
 use Rattle.keys.proofs.group.reason_in.Tie as tie
 

@@ -6,7 +6,8 @@ use Rattle.field.specs.declared.class.Class.the-variants.{Text}
 use Rattle.record.specs.declared.kind.Kind.the-variants.{Catalogo}
 use Rattle.record.specs.Table.{colAt, offsetAt}
 use Rattle.record.specs.machinery.Glance.{fullOrBlank}
-use Rattle.record.proofs.GlanceLaws.{seen-end, seen-code, seen-tipo, seen-words, seen-last, seen-fine, seen-none}
+use Rattle.record.proofs.GlanceLaws.{seen-end, seen-fine, seen-none}
+use Rattle.record.proofs.GlanceSeen.{seen-code, seen-tipo, seen-words, seen-last}
 use borrow.Author.Needs.{needs}
 use Rattle.record.proofs.glance.catalogo.Statement.{statement}
 use Rattle.record.proofs.glance.catalogo.Tie as tie

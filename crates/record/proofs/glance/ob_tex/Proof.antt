@@ -4,7 +4,8 @@ use mathlib.Core.Path.{refl}
 use denote.Ref.{now}
 use Rattle.record.specs.declared.kind.Kind.the-variants.{ObTex}
 use Rattle.record.specs.Table.{colAt, offsetAt}
-use Rattle.record.proofs.GlanceLaws.{seen-end, seen-need, seen-may, seen-code, seen-words, seen-position, seen-fine, seen-none}
+use Rattle.record.proofs.GlanceLaws.{seen-end, seen-fine, seen-none}
+use Rattle.record.proofs.GlanceSeen.{seen-need, seen-may, seen-code, seen-words, seen-position}
 use borrow.Author.Needs.{needs}
 use Rattle.record.proofs.glance.ob_tex.Statement.{statement}
 use Rattle.record.proofs.glance.ob_tex.Tie as tie

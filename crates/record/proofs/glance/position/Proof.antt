@@ -4,7 +4,7 @@ use mathlib.Core.Path.{sym}
 use denote.Ref.{now}
 use Rattle.laws.proofs.FindLaws.{true-false}
 use Rattle.record.specs.machinery.Glance.{positionAt}
-use Rattle.record.proofs.GlanceLaws.{position-inside}
+use Rattle.record.proofs.GlanceSeen.{position-inside}
 use borrow.Author.Needs.{needs}
 use Rattle.record.proofs.glance.position.Statement.{statement}
 use Rattle.record.proofs.glance.position.Tie as tie

@@ -5,7 +5,8 @@ use denote.Ref.{now}
 use Rattle.record.specs.declared.kind.Kind.the-variants.{Tramo}
 use Rattle.record.specs.Table.{colAt, offsetAt}
 use Rattle.record.specs.machinery.Glance.{senseIn}
-use Rattle.record.proofs.GlanceLaws.{seen-end, seen-need, seen-may, seen-code, seen-sense, seen-fine, seen-none}
+use Rattle.record.proofs.GlanceLaws.{seen-end, seen-fine, seen-none}
+use Rattle.record.proofs.GlanceSeen.{seen-need, seen-may, seen-code, seen-sense}
 use borrow.Author.Needs.{needs}
 use Rattle.record.proofs.glance.tramo.Statement.{statement}
 use Rattle.record.proofs.glance.tramo.Tie as tie

@@ -4,7 +4,8 @@ use mathlib.Core.Path.{refl}
 use denote.Ref.{now}
 use Rattle.record.specs.declared.kind.Kind.the-variants.{Vertice}
 use Rattle.record.specs.Table.{colAt, offsetAt}
-use Rattle.record.proofs.GlanceLaws.{seen-end, seen-need, seen-position, seen-fine, seen-none}
+use Rattle.record.proofs.GlanceLaws.{seen-end, seen-fine, seen-none}
+use Rattle.record.proofs.GlanceSeen.{seen-need, seen-position}
 use borrow.Author.Needs.{needs}
 use Rattle.record.proofs.glance.vertice.Statement.{statement}
 use Rattle.record.proofs.glance.vertice.Tie as tie

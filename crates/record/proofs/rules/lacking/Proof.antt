@@ -3,7 +3,7 @@
 use native.Mathlib.Omega.{arith}
 use mathlib.Core.Path.{_∙_, sym}
 use denote.Ref.{now}
-use Rattle.record.proofs.SaysLaws.{partners-none}
+use Rattle.record.proofs.RuleLaws.{partners-none}
 use borrow.Author.Needs.{needs}
 use Rattle.record.proofs.rules.lacking.Statement.{statement}
 use Rattle.record.proofs.rules.lacking.Tie as tie

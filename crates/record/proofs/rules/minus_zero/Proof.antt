@@ -1,7 +1,7 @@
 -- `record::rules::minus_zero` meets its contract.
 -- Assumes nothing.
 use borrow.Author.Needs.{needs}
-use Rattle.record.proofs.SaysLaws.{no-sign}
+use Rattle.record.proofs.RuleLaws.{no-sign}
 use Rattle.record.proofs.rules.minus_zero.Statement.{statement}
 use Rattle.record.proofs.rules.minus_zero.Tie as tie
 

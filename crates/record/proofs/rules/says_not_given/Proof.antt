@@ -2,7 +2,7 @@
 -- Assumes nothing.
 use mathlib.Core.Path.{_∙_, sym}
 use denote.Ref.{now}
-use Rattle.record.proofs.SaysLaws.{not-given-trimmed}
+use Rattle.record.proofs.RuleLaws.{not-given-trimmed}
 use borrow.Author.Needs.{needs}
 use Rattle.record.proofs.rules.says_not_given.Statement.{statement}
 use Rattle.record.proofs.rules.says_not_given.Tie as tie

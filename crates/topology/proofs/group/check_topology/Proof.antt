@@ -7,7 +7,7 @@ use borrow.Author.Needs.{needs}
 use Rattle.record.specs.Table.{fileCount}
 use Rattle.record.specs.Files.{filesOf, deliveryOf}
 use Rattle.topology.specs.Rules.{topologyIn, topologyFinding}
-use Rattle.keys.proofs.CellLaws.{Onward, files-start, files-more, files-here, files-end}
+use Rattle.keys.proofs.OverLaws.{Onward, files-start, files-more, files-here, files-end}
 use Rattle.topology.proofs.group.check_topology.Statement.{statement}
 use Rattle.topology.proofs.group.check_topology.Tie as tie
 
