@@ -7,7 +7,7 @@ use mathlib.Core.Path.{_≡_, refl, sym, ap, subst}
 use native.Mathlib.Nat.{mul-comm, div-le-of-le-mul, min-le-left, eq-or-lt-of-le}
 use mathlib.Core.Logic.{_⊎_, inl, inr, ⊎-elim}
 use native.Mathlib.Omega.{arith}
-use lib.Dec.{eqb, ltb, leb}
+use lib.Dec.{eqb, leb}
 use lib.ListN.{length, getD}
 use borrow.Author.Tests.{leb-true, eqb-true, ltb-false, lt-ltb, le-ltb, eq-eqb}
 use Rattle.laws.specs.Nest.{before}
@@ -16,12 +16,11 @@ use Rattle.laws.proofs.RowLaws.{and-true}
 use Rattle.laws.proofs.FindLaws.{true-false}
 use Rattle.record.specs.declared.kind.Kind.{Kind}
 use Rattle.record.specs.declared.reason.Break.{Break}
-use Rattle.record.specs.declared.reason.Finding.{Finding}
 use Rattle.record.specs.declared.reason.Finding.the-variants.{Broken}
 use Rattle.record.specs.Table.{fieldsOf, fileOf, lengthOf, limit, mostFields, fileCount}
 use Rattle.record.specs.Files.{Files, deliveryOf}
 use Rattle.record.specs.Cut.{countOf}
-use Rattle.record.specs.Rules.{breaks10, twenties}
+use Rattle.record.specs.Rules.{breaks10}
 use Rattle.record.specs.Breaks.{shapeTests, there, testsAt, broken}
 use Rattle.record.proofs.TableLaws.{sane}
 use Rattle.keys.specs.Groups.{brokenBy}

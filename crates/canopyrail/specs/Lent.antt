@@ -2,7 +2,7 @@
 -- coordinate, a length and a text of the widest field's bytes. A field whose length is 0 is missing; of a number or a coordinate any other length says that it is given.
 -- Assumes nothing.
 use Prim.Native.Nat.{ℕ, zero, suc, _+_, _*_}
-use mathlib.Core.Bool.{Bool, true, false, not, _&&_, _||_}
+use mathlib.Core.Bool.{Bool, true, false, not, _&&_}
 use mathlib.Core.List.{List, [], _++_}
 use mathlib.Core.Path.{_≡_}
 use lib.Dec.{eqb, ltb}
@@ -19,7 +19,6 @@ use Rattle.codec.specs.declared.values.Value.{Value}
 use Rattle.codec.specs.declared.values.Values.{Values}
 use Rattle.codec.specs.declared.values.Answer.{Answer}
 use Rattle.codec.specs.declared.values.Answer.the-variants.{Done, Refused}
-use Rattle.codec.specs.declared.values.Reading.{Reading}
 use Rattle.codec.specs.Values.{valueAt}
 use Rattle.codec.specs.Calls.{readOf, Writes}
 use Rattle.canopyrail.specs.Answers.{answerWord, refusalWord}

@@ -15,6 +15,7 @@ use Rattle.laws.proofs.FindLaws.{first-same}
 use Rattle.laws.proofs.RowLaws.{then-false, neither, less, same-test, length-row, row-at, row-same, each-at, each-same}
 use Rattle.field.specs.declared.class.Class.the-variants.{Blank}
 use Rattle.field.specs.Bytes.{allOf}
+use Rattle.record.proofs.PackedLaws.{domain-fits, formDomain}
 use Rattle.record.specs.declared.kind.Kind.{Kind}
 use Rattle.record.specs.declared.kind.Form.{Form}
 use Rattle.record.specs.declared.kind.Form.the-variants.{Sign, Size}
@@ -26,7 +27,7 @@ use Rattle.record.specs.Cut.{textOf}
 use Rattle.record.specs.Rules.{missingIn, outside, partnersBlank, breaks22, breaks23, breaks24, breaks25, twenties}
 use Rattle.record.specs.Breaks.{atPlace, findingOf, recordFinding}
 use Rattle.record.specs.Says.{Said, saidAs, saidIn}
-use Rattle.record.proofs.TableLaws.{sane, widths, DomainFits, domain-fits, within}
+use Rattle.record.proofs.TableLaws.{sane, widths, within}
 use Rattle.codec.specs.Values.{noValue, saidBy, valueOf, valueAt, valuesSay, valuesIn}
 use Rattle.codec.specs.Writes.{bytesAs, fieldBytes, joined, encode}
 use Rattle.codec.specs.Refusals.{tooLarge, badSaid, blankAs, blankAt, missingAs, partnersMissing, refuses62, refuses63, refuses64, refuses65, sixties, sixtyReasons, valueBreaks, valuesFinding}
@@ -132,7 +133,7 @@ module _ (s : List ℕ) (k : Kind) (i : ℕ) (l : length s ≡ lengthOf k) (ok :
       rw (size-at f e, q)
 
   sign-domain : (f : ℕ) → formAt k f ≡ Sign → domainAt k f ≡ PlusMinus
-  sign-domain f e = subst (λ (x : Form). DomainFits x (domainAt k f)) e (domain-fits k f)
+  sign-domain f e = subst (λ (x : Form). domainAt k f ≡ formDomain x (domainAt k f)) e (domain-fits k f)
 
   -- WRITTEN: the same bytes
   field-back : (f : ℕ) → f ≤ fieldsOf k → fieldBytes k (saidIn s k) f ≡ textOf s k f

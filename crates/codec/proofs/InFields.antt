@@ -28,8 +28,7 @@ use Rattle.record.specs.Table.{isN, widest}
 use Rattle.record.specs.machinery.Packed.{formDigit, formOf}
 use Rattle.record.specs.Rules.{notNumber, notText, missingIn, inDomain, outside, isSignByte}
 use Rattle.record.specs.Says.{Said, missing, number, text, coordinate, textSaid, saidAs, isMissing}
-use Rattle.record.proofs.TableLaws.{DomainFits}
-use Rattle.record.proofs.PackedLaws.{form-digit}
+use Rattle.record.proofs.PackedLaws.{form-digit, formDomain}
 use Rattle.record.proofs.RuleLaws.{domain-first}
 use Rattle.codec.specs.Values.{valueOf, saidBy, textBy, textValue}
 use Rattle.codec.specs.Writes.{bytesAs, textBytes, numberBytes, signBytes}
@@ -133,7 +132,7 @@ never-outside d e (number n) = refl
 never-outside d e (text t) = rw e
 never-outside d e (coordinate z) = refl
 
-pub not-outside : (form : Form) (d : Domain) (t b next : List ℕ) → DomainFits form d → (missingIn form t ≡ false → outside form d t next ≡ false) → outsideSaid d (saidAs form t b) ≡ false
+pub not-outside : (form : Form) (d : Domain) (t b next : List ℕ) → d ≡ formDomain form d → (missingIn form t ≡ false → outside form d t next ≡ false) → outsideSaid d (saidAs form t b) ≡ false
 unfolding saidAs missingIn outside
 not-outside Words d t b next fits e = picked (λ x. outsideSaid d x ≡ false) (allOf Blank t) missing (text (trimmed t)) (λ _. refl) (λ h. within-words d t h (e (rw h)))
 not-outside Code d t b next fits e = never-outside d fits (saidAs Code t b)

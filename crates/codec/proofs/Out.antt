@@ -18,6 +18,7 @@ use Rattle.field.specs.declared.class.Class.the-variants.{Blank}
 use Rattle.field.specs.Bytes.{allOf, lawfulText}
 use Rattle.field.specs.Texts.{firstBytes}
 use Rattle.field.proofs.TextLoops.{length-first}
+use Rattle.record.proofs.PackedLaws.{domain-fits}
 use Rattle.record.specs.declared.kind.Kind.{Kind}
 use Rattle.record.specs.declared.kind.Form.{Form}
 use Rattle.record.specs.declared.kind.Form.the-variants.{Words, Code, Sign, Number, Size}
@@ -27,7 +28,7 @@ use Rattle.record.specs.Cut.{textOf}
 use Rattle.record.specs.Rules.{breaks22, breaks23, breaks24, breaks25, notNumber, notText, missingIn, outside, partnersBlank, twenties}
 use Rattle.record.specs.Breaks.{recordFinding}
 use Rattle.record.specs.Says.{Said, missing, number, text, coordinate, isMissing, saidIn}
-use Rattle.record.proofs.TableLaws.{widths, domain-fits}
+use Rattle.record.proofs.TableLaws.{widths}
 use Rattle.codec.specs.declared.values.Value.{Value}
 use Rattle.codec.specs.declared.values.Values.{Values}
 use Rattle.codec.specs.Values.{saidBy, textBy, valueAt, valuesSay}

@@ -21,6 +21,7 @@ use Rattle.field.specs.Texts.{padded, trimmed, notGiven}
 use Rattle.field.proofs.DigitLaws.{length-digits, digits-are, digits-not-blank, number-of-digits, zero-number, sign-trip, sign-of-byte}
 use Rattle.field.proofs.TextLoops.{length-padded}
 use Rattle.field.proofs.TextLaws.{blanks-are, not-blank-first, padded-first, padded-empty, padded-text, trimmed-blank, trimmed-padded}
+use Rattle.record.proofs.PackedLaws.{formDomain}
 use Rattle.record.specs.declared.kind.Form.{Form}
 use Rattle.record.specs.declared.kind.Domain.{Domain}
 use Rattle.record.specs.declared.kind.Domain.the-variants.{Any, PlusMinus}
@@ -28,7 +29,6 @@ use Rattle.record.specs.declared.kind.Form.the-variants.{Words, Code, Sign, Num
 use Rattle.record.specs.Table.{isN}
 use Rattle.record.specs.Rules.{notNumber, notText, missingIn, isSignByte, inDomain, outside}
 use Rattle.record.specs.Says.{Said, missing, number, text, coordinate, isMissing, textSaid, saidAs}
-use Rattle.record.proofs.TableLaws.{DomainFits}
 use Rattle.record.proofs.RuleLaws.{domain-first}
 use Rattle.codec.specs.Writes.{numberBytes, signBytes, textBytes, bytesAs}
 use Rattle.codec.specs.Refusals.{tooLarge, badText, badSaid, saysNotGiven, blankAs, missingAs, outsideSaid}
@@ -257,7 +257,7 @@ any-inside : (d : Domain) → d ≡ Any → (t : List ℕ) → (not (inDomain d 
 unfolding inDomain
 any-inside d e t = rw e
 
-pub out-inside : (form : Form) (d : Domain) (w : ℕ) (own next : Said) (m : ℕ) (b : List ℕ) → DomainFits form d → Sayable form w own next
+pub out-inside : (form : Form) (d : Domain) (w : ℕ) (own next : Said) (m : ℕ) (b : List ℕ) → d ≡ formDomain form d → Sayable form w own next
     → (form ≡ Sign → (0 < m) × (m ≤ 10) × (tooLarge m next ≡ false) × (b ≡ numberBytes m next))
     → outsideSaid d own ≡ false → allOf Blank (bytesAs form w own next) ≡ false → outside form d (bytesAs form w own next) b ≡ false
 unfolding outside bytesAs shaped

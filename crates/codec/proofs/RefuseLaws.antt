@@ -8,12 +8,12 @@ use mathlib.Core.Path.{_≡_, refl, sym, _∙_, ap}
 use native.Mathlib.Numerals.{add-one}
 use native.Mathlib.Decide.{decLe}
 use native.Mathlib.Omega.{arith}
-use types.Run.{hit, miss}
+use types.Run.{miss}
 use lib.Dec.{ltb, eqb}
 use lib.IntN.{natAbs}
 use lib.ListN.{length, getD, take}
 use lib.Seq.{getD-take}
-use borrow.Author.Tests.{lt-ltb, le-ltb, eq-eqb, ne-eqb, eqb-false}
+use borrow.Author.Tests.{lt-ltb, le-ltb, eq-eqb, ne-eqb}
 use Rattle.laws.specs.Row.{pick}
 use Rattle.laws.specs.Find.{firstOf}
 use Rattle.laws.specs.Nest.{run}

@@ -1,6 +1,5 @@
 -- What may be said in a field of a form: the shapes that values and bytes give.
 -- Assumes nothing.
-use Prim.Native.Nat.{ℕ}
 use mathlib.Core.Bool.{Bool, true, false}
 use lib.Dec.{ltb}
 use lib.ListN.{length}

@@ -2,7 +2,7 @@
 -- Assumes nothing.
 use Prim.Native.Nat.{ℕ, _+_}
 use mathlib.Core.List.{List, [], _∷_, _++_}
-use lib.IntN.{ℤ, natAbs}
+use lib.IntN.{natAbs}
 use Rattle.laws.specs.Row.{row}
 use Rattle.field.specs.Bytes.{blanks}
 use Rattle.field.specs.Digits.{digits}

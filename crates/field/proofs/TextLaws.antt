@@ -10,8 +10,8 @@ use native.Mathlib.Nat.{not-suc-le-zero, le-of-suc-le-suc, eq-or-lt-of-le}
 use native.Mathlib.Decide.{decLt}
 use native.Mathlib.Omega.{arith}
 use lib.Dec.{eqb}
-use lib.ListN.{length, getD, take, replicate, length-append, length-replicate, getD-replicate, List·getD-append, List·getD-eq-default}
-use lib.Seq.{take-all, take-at, take-take, take-append-le, length-take-le, getD-take, getD-append-add, ext-getD}
+use lib.ListN.{length, getD, take, replicate, length-replicate, getD-replicate, List·getD-eq-default}
+use lib.Seq.{take-all, take-at, take-take, take-append-le, ext-getD}
 use borrow.Author.Tests.{eqb-true, eq-eqb, ne-eqb}
 use Rattle.laws.specs.Row.{pick, each}
 use Rattle.laws.proofs.FindLaws.{true-false}
@@ -20,7 +20,7 @@ use Rattle.field.specs.declared.class.Class.{Class}
 use Rattle.field.specs.declared.class.Class.the-variants.{Blank, Text}
 use Rattle.field.specs.Bytes.{inClass, allOf, blanks, lawfulText}
 use Rattle.field.specs.Texts.{padded, trimTo, trimmed, firstBytes, base256, wordOf}
-use Rattle.field.proofs.TextLoops.{length-padded, padded-in, padded-past, length-trimmed, trimmed-at, length-first, base-more}
+use Rattle.field.proofs.TextLoops.{length-padded, padded-in, padded-past, length-trimmed, trimmed-at, base-more}
 use Rattle.field.proofs.DigitLaws.{all-at, not-all, all-append}
 
 -- CLASSES: of blanks, of the first bytes

@@ -1,7 +1,7 @@
 -- The bytes of a field, and the classes of bytes (source 000, sections 5.1 to 5.4; document 01, "A lawful record").
 -- Assumes nothing.
 use Prim.Native.Nat.{ℕ}
-use mathlib.Core.Bool.{Bool, true, false, not, _&&_, _||_}
+use mathlib.Core.Bool.{Bool, not, _&&_, _||_}
 use mathlib.Core.List.{List}
 use lib.Dec.{leb, eqb}
 use lib.ListN.{getD, replicate}

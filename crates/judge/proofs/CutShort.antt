@@ -18,9 +18,8 @@ use Rattle.record.specs.declared.kind.Which.{Which}
 use Rattle.record.specs.declared.kind.Which.the-variants.{NoFile, File}
 use Rattle.record.specs.Table.{whichOf, fileCount}
 use Rattle.record.specs.Files.{Files}
-use Rattle.record.proofs.TableLaws.{sane}
+use Rattle.record.proofs.TableLaws.{sane, which-file}
 use Rattle.keys.specs.Rules.{orFirst}
-use Rattle.keys.proofs.GroupMeaning.{which-file}
 use Rattle.judge.specs.Line.{big, isBig, bigOf, programLine}
 use Rattle.judge.proofs.LineLaws.{bigAt, some-big-line}
 

@@ -1,7 +1,7 @@
 -- The verdict's finding means what specs/Broken.antt says, in terms of the rules' tests and the order of places alone, and no other
 -- finding does.
 -- Assumes nothing.
-use Prim.Native.Nat.{ℕ, zero, suc, _+_, _-_, _/_, _%_, _<_, _≤_}
+use Prim.Native.Nat.{ℕ, zero, suc, _+_, _-_, _/_, _%_, _<_}
 use mathlib.Core.Bool.{Bool, true, false}
 use mathlib.Core.List.{[], _∷_}
 use mathlib.Core.Option.{Option, none, some}
@@ -15,17 +15,16 @@ use Rattle.laws.specs.Nest.{before}
 use Rattle.laws.proofs.FindLaws.{true-false, none-at, some-at}
 use Rattle.laws.proofs.NestLaws.{before-split, before-total}
 use Rattle.record.specs.declared.kind.Kind.{Kind}
-use Rattle.record.specs.declared.kind.Kind.the-variants.{Catalogo}
 use Rattle.record.specs.declared.reason.Reason.{Reason}
 use Rattle.record.specs.declared.reason.Reason.the-variants.{LongFile10}
 use Rattle.record.specs.declared.reason.Break.{Break}
 use Rattle.record.specs.declared.reason.Finding.{Finding}
 use Rattle.record.specs.declared.reason.Finding.the-variants.{Fine, Broken}
-use Rattle.record.specs.Table.{fileOf, whichOf, kinds}
+use Rattle.record.specs.Table.{fileOf, whichOf}
 use Rattle.record.specs.Files.{Files, Delivery, deliveryOf}
 use Rattle.record.specs.Breaks.{numberOf, breakOf, findingOf, tenReasons, twentyReasons, shapeFinding, fieldsFinding, broken}
 use Rattle.record.proofs.Claims.{MeansBy}
-use Rattle.record.proofs.TableLaws.{kind-at}
+use Rattle.record.proofs.TableLaws.{file-same}
 use Rattle.record.proofs.Meaning.{shape-means, fields-means, means-shown}
 use Rattle.keys.specs.Rules.{keyReasons, keysIn, keysFinding, keysBroken}
 use Rattle.keys.specs.Groups.{Reasons, breakIn, overFiles}
@@ -59,9 +58,6 @@ module _ (p : ℕ → ℕ → ℕ → Bool) (t : ℕ) (k : Kind) where
       → before (i ∷ f ∷ n ∷ []) (b .«record» ∷ b .field ∷ numberOf (b .reason) ∷ []) ≡ true → ⊥)
   unfolding MeansBy
   broken-means b m = m
-
-file-one : (k k' : Kind) → fileOf k ≡ fileOf k' → k ≡ k'
-file-one k k' e = sym (kind-at k) ∙ ap (λ (n : ℕ). getD kinds (n - 1) Catalogo) e ∙ kind-at k'
 
 fine-broken : {b : Break} → Fine ≡ Broken b → ⊥
 fine-broken e = let z : _≡_ {A = ℕ} 0 1 = cc in omega arith
@@ -158,7 +154,7 @@ module _ (files : Files) where
             (λ x.
             ⊎-elim
             (λ y. true-false (sym here ∙ fine-means _ t k' (lower k' y) (ten t .means k') n' i' f' (x .0 ∙ m .0)))
-            (λ y. m .3 n' i' f' (x .0 ∙ m .0) (rw (file-one k' k (y .0)) at here) (y .1))
+            (λ y. m .3 n' i' f' (x .0 ∙ m .0) (rw (file-same k' k (y .0)) at here) (y .1))
             (before-split (fileOf k') (fileOf k) _ _ (x .1)))
             (before-split (n' / 10) (numberOf (b .reason) / 10) _ _ l);
       }
@@ -186,7 +182,7 @@ module _ (files : Files) where
   first-one {b} {b'} a a' =
       let e = before-total (placeAt (a .n) (a .k) (a .i) (a .f)) (placeAt (a' .n) (a' .k) (a' .i) (a' .f)) refl (not-before a' a) (not-before a a') in
       let q : fileOf (a .k) ≡ fileOf (a' .k) = cc in
-      let k = file-one (a .k) (a' .k) q in
+      let k = file-same (a .k) (a' .k) q in
       let n : a .n ≡ a' .n = cc in
       let i : a .i ≡ a' .i = cc in
       let f : a .f ≡ a' .f = cc in

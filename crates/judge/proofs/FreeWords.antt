@@ -14,12 +14,10 @@ use Rattle.laws.specs.Find.{firstOf, firstIndex, any}
 use Rattle.laws.specs.Nest.{run}
 use Rattle.laws.specs.Row.{row, each}
 use Rattle.laws.proofs.FindLaws.{true-false, any-no, any-false, first-same}
-use Rattle.laws.proofs.RowLaws.{and-true, true-and, and-last, then-false, each-same, row-same}
+use Rattle.laws.proofs.RowLaws.{and-true, true-and, and-last, then-false, each-same}
 use Rattle.field.specs.declared.class.Class.the-variants.{Blank}
 use Rattle.field.specs.Bytes.{allOf}
 use Rattle.record.specs.declared.kind.Kind.{Kind}
-use Rattle.record.specs.declared.kind.Which.{Which}
-use Rattle.record.specs.declared.kind.Which.the-variants.{NoFile, File}
 use Rattle.record.specs.declared.kind.Form.{Form}
 use Rattle.record.specs.declared.kind.Form.the-variants.{Words, Code, Sign, Number, Size}
 use Rattle.record.specs.declared.kind.Domain.{Domain}

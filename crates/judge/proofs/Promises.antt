@@ -2,7 +2,7 @@
 -- contracts say that `judge` gives verdictOf, `read` gives readOf, and `write` does Writes; docs/PROMISES.md has them in plain words.
 -- Assumes nothing.
 use Prim.Native.Nat.{ℕ, _+_, _-_, _≤_}
-use mathlib.Core.Bool.{true, false}
+use mathlib.Core.Bool.{false}
 use mathlib.Core.List.{List, map, _++_}
 use mathlib.Core.Path.{_≡_, sym, _∙_}
 use lib.ListN.{length, take, drop, getD}

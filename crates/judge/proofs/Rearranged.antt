@@ -14,10 +14,10 @@ use Rattle.laws.specs.Find.{any, names}
 use Rattle.laws.specs.Row.{pick, each}
 use Rattle.laws.proofs.RowLaws.{and-true, then-false, and-last, same-test, picked, end, more, falses}
 use Rattle.record.specs.declared.kind.Kind.{Kind}
-use Rattle.record.specs.declared.kind.Kind.the-variants.{Catalogo, ObPun, ObTex, ObLin, Tramo, Vertice, Nodo}
-use Rattle.record.specs.Table.{Col, whole, cols, colAt, kinds, fieldsOf, fileOf, keysOf, targetOf}
-use Rattle.record.specs.Says.{Said, Table, isMissing, numberIn, placeIn}
-use Rattle.record.proofs.TableLaws.{each-getD, kind-at, every}
+use Rattle.record.specs.declared.kind.Kind.the-variants.{Catalogo, ObPun, ObLin, Tramo, Vertice, Nodo}
+use Rattle.record.specs.Table.{Col, whole, cols, colAt, fieldsOf, fileOf, keysOf, targetOf}
+use Rattle.record.specs.Says.{Said, Table, numberIn, placeIn}
+use Rattle.record.proofs.TableLaws.{each-getD, every, file-same}
 use Rattle.record.specs.declared.kind.Target.{Target}
 use Rattle.record.specs.declared.kind.Target.the-variants.{Free, Nowhere, To}
 use Rattle.record.specs.Files.{Delivery}
@@ -55,10 +55,6 @@ lawful-all k =
 target-fits : (k : Kind) (f : ℕ) → fits (targetOf k f) ≡ true
 unfolding targetOf colAt
 target-fits k f = each-getD fitting (cols k) whole refl (lawful-all k .2) f
-
--- a file has its number alone
-file-same : (j k : Kind) → eqb (fileOf j) (fileOf k) ≡ true → j ≡ k
-file-same j k e = sym (kind-at j) ∙ ap (λ (n : ℕ). getD kinds (n - 1) Catalogo) (eqb-true (fileOf j) (fileOf k) e) ∙ kind-at k
 
 eqb-swap : (a b : ℕ) → eqb a b ≡ eqb b a
 eqb-swap a b = same-test (eqb a b) (eqb b a) (λ e. eq-eqb b a (sym (eqb-true a b e))) (λ e. eq-eqb a b (sym (eqb-true b a e)))
@@ -241,7 +237,7 @@ module _ (d e : Delivery) (r : Rearranged d e) where
   told file field p q same k i f l h =
       and-last (isAt file field k f) (q i)
       (λ t.
-      let z = file-same k file (and-true (eqb (fileOf k) (fileOf file)) (eqb f field) t .0) in
+      let z = file-same k file (eqb-true _ _ (and-true (eqb (fileOf k) (fileOf file)) (eqb f field) t .0)) in
       let b : p (to k i) ≡ false = then-false (isAt file field k f) (p (to k i)) h t in
       same i (rw z at l) ∙ (rw z at b))
 

@@ -18,7 +18,6 @@ use Rattle.codec.proofs.AllFalse.{values-fine}
 use Rattle.keys.specs.Groups.{breakIn}
 use Rattle.keys.specs.Rules.{keyTests, keyReasons, keysBroken, keysIn, keysFinding}
 use Rattle.topology.specs.Rules.{fiftyReasons, topologyTests, topologyBroken, topologyIn, topologyFinding}
-use Rattle.judge.specs.declared.judge.Verdict.{Verdict}
 use Rattle.judge.specs.Verdict.{groups, groupAt, judged, countsOf, verdictOf}
 use Rattle.judge.specs.Obeys.{Records, valuesAt, tablesOf, Obeys, madeOf, Shuffled, lengthsOf, accepted}
 use Rattle.judge.proofs.NoneBroken.{over-fine, none-broken-fine}

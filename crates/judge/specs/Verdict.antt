@@ -7,7 +7,7 @@ use Rattle.laws.specs.Find.{firstOf}
 use Rattle.record.specs.declared.reason.Finding.{Finding}
 use Rattle.record.specs.declared.reason.Finding.the-variants.{Fine}
 use Rattle.record.specs.Table.{kinds}
-use Rattle.record.specs.Files.{Files, Delivery, deliveryOf}
+use Rattle.record.specs.Files.{Files, deliveryOf}
 use Rattle.record.specs.Cut.{countOf}
 use Rattle.record.specs.Breaks.{findingOf, shapeFinding, fieldsFinding}
 use Rattle.keys.specs.Groups.{breakIn, overFiles}

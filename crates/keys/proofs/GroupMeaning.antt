@@ -3,14 +3,14 @@
 -- Assumes nothing.
 use Prim.Native.Nat.{ℕ, zero, suc, _+_, _-_, _*_, _/_, _%_, _<_, _≤_}
 use mathlib.Core.Bool.{Bool, true, false, not}
-use mathlib.Core.List.{List, [], _∷_}
+use mathlib.Core.List.{[], _∷_}
 use mathlib.Core.Option.{Option, none, some}
 use mathlib.Core.Path.{_≡_, refl, sym, ap, subst, _∙_}
-use mathlib.Core.Logic.{_⊎_, inl, inr, ⊎-elim}
+use mathlib.Core.Logic.{_⊎_, ⊎-elim}
 use native.Mathlib.Omega.{arith}
-use lib.Dec.{ltb, eqb}
+use lib.Dec.{eqb}
 use lib.ListN.{getD}
-use borrow.Author.Tests.{ltb-true, leb-true, le-leb, eqb-true, not-false}
+use borrow.Author.Tests.{leb-true, le-leb, eqb-true, not-false}
 use Rattle.laws.specs.Find.{firstOf, firstIndex, any}
 use Rattle.laws.specs.Nest.{before}
 use Rattle.laws.proofs.NestLaws.{before-split}
@@ -27,7 +27,7 @@ use Rattle.record.specs.declared.reason.Finding.the-variants.{Fine, Broken}
 use Rattle.record.specs.Table.{fieldsOf, fileOf, whichOf, fileCount}
 use Rattle.record.specs.Breaks.{numberOf, findingOf}
 use Rattle.record.proofs.Claims.{MeansBy}
-use Rattle.record.proofs.TableLaws.{sane}
+use Rattle.record.proofs.TableLaws.{sane, which-file}
 use Rattle.record.specs.Files.{Delivery}
 use Rattle.keys.specs.Rules.{keyTests, keyReasons, keysIn, keysBroken}
 use Rattle.keys.specs.Groups.{Tests, Reasons, cellsOf, groupFinding, brokenBy, breakIn, atFile, overFiles}
@@ -138,16 +138,6 @@ unfolding keysIn keysBroken
 keys-means t d k = group-means t (λ t'. keyTests t' d k) (keyReasons t d k) k (d k .count) (key-numbered t d k)
 
 -- OVER THE FILES
-pub which-file : (k : Kind) → whichOf (fileOf k) ≡ File k
-unfolding whichOf
-which-file K.Catalogo = refl
-which-file K.ObPun = refl
-which-file K.ObTex = refl
-which-file K.ObLin = refl
-which-file K.Tramo = refl
-which-file K.Vertice = refl
-which-file K.Nodo = refl
-
 fileIn : Which → ℕ
 fileIn NoFile = 0
 fileIn (File k) = fileOf k

@@ -4,7 +4,7 @@
 use Rattle.keys.specs.Groups.{groupFinding, brokenBy, overFiles}
 use Rattle.record.specs.declared.reason.Finding.{Finding}
 use Prim.Native.Nat.{ℕ, suc}
-use mathlib.Core.Bool.{Bool, true, false, not, _&&_}
+use mathlib.Core.Bool.{Bool, false, not, _&&_}
 use mathlib.Core.List.{List, [], _∷_}
 use mathlib.Core.Option.{Option, none, some}
 use lib.Dec.{eqb}
@@ -13,7 +13,7 @@ use Rattle.laws.specs.Find.{any, firstIndex, names}
 use Rattle.record.specs.declared.kind.Kind.{Kind}
 use Rattle.record.specs.declared.kind.Kind.the-variants.{Catalogo}
 use Rattle.record.specs.declared.reason.Reason.{Reason}
-use Rattle.record.specs.declared.reason.Reason.the-variants.{LongFile10, SameKey30, NoRecord40, OtherType41}
+use Rattle.record.specs.declared.reason.Reason.the-variants.{SameKey30, NoRecord40, OtherType41}
 use Rattle.record.specs.Table.{keysOf, fileOf, targetOf, letterOf}
 use Rattle.record.specs.Says.{Table, letterIn}
 use Rattle.record.specs.declared.kind.Target.{Target}

@@ -8,7 +8,7 @@ use native.Mathlib.Omega.{arith}
 use lib.Dec.{eqb}
 use lib.ListN.{getD}
 use borrow.Author.Tests.{eq-eqb}
-use Rattle.laws.specs.Find.{any, names}
+use Rattle.laws.specs.Find.{names}
 use Rattle.laws.specs.Row.{pick}
 use Rattle.laws.proofs.FindLaws.{true-false, any-at, any-true}
 use Rattle.laws.proofs.RowLaws.{and-true, and-last, end, more, falses}

@@ -1,7 +1,7 @@
 -- What the tests of a glance tell (specs/Glance.antt): at a place where they hold nothing is broken, and a record where they hold at
 -- every place has no break.
 -- Assumes nothing.
-use Prim.Native.Nat.{ℕ, zero, _+_, _-_, _<_, _≤_}
+use Prim.Native.Nat.{ℕ, _+_, _-_, _<_, _≤_}
 use mathlib.Core.Bool.{Bool, true, false, not, _&&_, _||_}
 use mathlib.Core.Bool as bool
 use mathlib.Core.List.{List, [], _∷_}

@@ -1,10 +1,9 @@
 -- What a glance tells of coordinates (specs/machinery/Glance.antt): a sign and a size, X, Y and Z, with their partners.
 -- Assumes nothing.
 use Prim.Native.Nat.{ℕ, zero, suc, _+_, _-_, _<_, _≤_}
-use mathlib.Core.Bool.{Bool, true, false, not}
+use mathlib.Core.Bool.{Bool, true, false}
 use mathlib.Core.Bool as bool
 use mathlib.Core.List.{List, []}
-use mathlib.Core.Option.{none}
 use mathlib.Core.Path.{_≡_, refl, sym, ap, _∙_}
 use native.Mathlib.Numerals.{add-one}
 use native.Mathlib.Omega.{arith}
@@ -19,12 +18,12 @@ use Rattle.field.specs.Bytes.{allOf}
 use Rattle.record.specs.declared.kind.Kind.{Kind}
 use Rattle.record.specs.declared.kind.Form.the-variants.{Sign, Size}
 use Rattle.record.specs.declared.kind.Domain.the-variants.{Any, PlusMinus}
-use Rattle.record.specs.Table.{Col, Must, never, required, whole, signCol, sizeCol, pair, zPair, position, cols, roomIn, colAt, backAt, aheadAt, offsetAt, fieldsOf}
+use Rattle.record.specs.Table.{Col, Must, never, required, whole, signCol, sizeCol, pair, zPair, cols, roomIn, colAt, backAt, aheadAt, offsetAt, fieldsOf}
 use Rattle.record.specs.Cut.{textOf}
 use Rattle.record.specs.Rules.{breaks21, partnersBlank, inDomain, outside}
 use Rattle.record.specs.machinery.Glance.{cut, barAt, signIn, signedAt, goneAt, positionAt, nowhereAt}
 use Rattle.record.proofs.TableLaws.{offset-next}
-use Rattle.record.proofs.GlanceLaws.{either, Over, over-two, over-both, Clean, clean, sign-within, full-clean, blank-clean, last-bar, col-form, col-must, col-domain, col-back, col-ahead, col-text, col-bar}
+use Rattle.record.proofs.GlanceLaws.{either, Over, over-two, over-both, Clean, sign-within, full-clean, blank-clean, last-bar, col-form, col-must, col-domain, col-back, col-ahead, col-text, col-bar}
 
 -- PARTNERS that are all blank
 abbrev BlankAt : List ℕ → Kind → ℕ → Type 0

@@ -1,6 +1,6 @@
 -- The laws of the rows of specs/Table.antt.
 -- Assumes nothing.
-use Prim.Native.Nat.{ℕ, zero, suc, _+_, _-_, _*_, _/_, _%_, _≤_, _<_}
+use Prim.Native.Nat.{ℕ, zero, suc, _+_, _-_, _≤_, _<_}
 use mathlib.Core.Bool.{Bool, true, false, _&&_, _||_, not}
 use mathlib.Core.List.{List, [], _∷_, map}
 use mathlib.Core.Path.{_≡_, refl, sym, ap, subst, _∙_}
@@ -9,17 +9,12 @@ use native.Mathlib.Omega.{arith}
 use lib.Dec.{leb, eqb}
 use lib.ListN.{length, getD, List·getD-eq-default}
 use borrow.Author.Tests.{leb-true, eq-eqb, not-true}
-use Rattle.laws.specs.Row.{pick, row, each}
-use Rattle.laws.proofs.FindLaws.{true-false}
+use Rattle.laws.specs.Row.{row, each}
 use Rattle.laws.proofs.RowLaws.{and-true, length-row, row-at, each-at}
 use Rattle.record.specs.declared.kind.Kind.{Kind}
 use Rattle.record.specs.declared.kind.Kind.the-variants.{Catalogo, ObPun, ObTex, ObLin, Tramo, Vertice, Nodo}
-use Rattle.record.specs.declared.kind.Form.{Form}
-use Rattle.record.specs.declared.kind.Form.the-variants.{Words, Code, Sign, Number, Size}
-use Rattle.record.specs.declared.kind.Domain.{Domain}
-use Rattle.record.specs.declared.kind.Domain.the-variants.{Any, ObjectType, PlusMinus}
 use Rattle.record.specs.declared.kind.Which.the-variants.{NoFile, File}
-use Rattle.record.specs.Table.{Col, whole, cols, roomIn, roomOf, offsetIn, lengthIn, colAt, formAt, widthAt, domainAt, ownAt, offsetAt, keysOf, kinds, mostFields, widest, fieldsOf, lengthOf, fileOf, whichOf, isN}
+use Rattle.record.specs.Table.{Col, whole, cols, roomIn, roomOf, offsetIn, lengthIn, colAt, formAt, widthAt, ownAt, offsetAt, keysOf, kinds, mostFields, widest, fieldsOf, lengthOf, fileOf, whichOf, isN}
 
 -- A TABLE: a test of every element holds at every index, where it holds of the default
 pub each-getD : {A : Type 0} (p : A → Bool) (xs : List A) (d : A) → p d ≡ true → each p xs ≡ true → (i : ℕ) → p (getD xs i d) ≡ true
@@ -65,6 +60,10 @@ kind-at Tramo = refl
 kind-at Vertice = refl
 kind-at Nodo = refl
 
+-- a file has its number alone
+pub file-same : (j k : Kind) → fileOf j ≡ fileOf k → j ≡ k
+file-same j k e = sym (kind-at j) ∙ ap (λ (n : ℕ). getD kinds (n - 1) Catalogo) e ∙ kind-at k
+
 pub every : (p : Kind → Bool) → each p kinds ≡ true → (k : Kind) → p k ≡ true
 unfolding each
 every p e k = subst (λ (j : Kind). p j ≡ true) (kind-at k) (each-getD p kinds Catalogo (and-true (p Catalogo) _ e .0) e (fileOf k - 1))
@@ -104,53 +103,6 @@ unfolding widthAt formAt colAt each fit
 widths k f =
     let e = and-true _ _ (each-getD fit (cols k) whole refl (every (λ j. each fit (cols j)) refl k) f) in
     (leb-true _ _ (e .0), λ n. leb-true _ _ (rw n at (e .1)))
-
--- which domains the forms have: only words have one of their own
-abbrev isAny : Domain → Bool
-isAny Any = true
-isAny ObjectType = false
-isAny PlusMinus = false
-
-any-is : (d : Domain) → isAny d ≡ true → d ≡ Any
-any-is Any e = refl
-any-is ObjectType e = absurd (true-false (sym e))
-any-is PlusMinus e = absurd (true-false (sym e))
-
-abbrev isPlusMinus : Domain → Bool
-isPlusMinus Any = false
-isPlusMinus ObjectType = false
-isPlusMinus PlusMinus = true
-
-plus-minus-is : (d : Domain) → isPlusMinus d ≡ true → d ≡ PlusMinus
-plus-minus-is Any e = absurd (true-false (sym e))
-plus-minus-is ObjectType e = absurd (true-false (sym e))
-plus-minus-is PlusMinus e = refl
-
-abbrev domainFits : Form → Domain → Bool
-domainFits Words d = true
-domainFits Code d = isAny d
-domainFits Sign d = isPlusMinus d
-domainFits Number d = isAny d
-domainFits Size d = isAny d
-
-abbrev pub DomainFits : Form → Domain → Type 0
-DomainFits Words d = Unit {0}
-DomainFits Code d = d ≡ Any
-DomainFits Sign d = d ≡ PlusMinus
-DomainFits Number d = d ≡ Any
-DomainFits Size d = d ≡ Any
-
-fits-domain : (form : Form) (d : Domain) → domainFits form d ≡ true → DomainFits form d
-fits-domain Words d e = tt
-fits-domain Code d e = any-is d e
-fits-domain Sign d e = plus-minus-is d e
-fits-domain Number d e = any-is d e
-fits-domain Size d e = any-is d e
-
-pub domain-fits : (k : Kind) (f : ℕ) → DomainFits (formAt k f) (domainAt k f)
-unfolding formAt domainAt colAt each
-domain-fits k f =
-    fits-domain (formAt k f) (domainAt k f) (each-getD (λ c. domainFits (c .form) (c .domain)) (cols k) whole refl (every (λ j. each (λ c. domainFits (c .form) (c .domain)) (cols j)) refl k) f)
 
 -- where the key is two fields, the first is a number, and no id stands for it
 pairFits : Kind → Bool

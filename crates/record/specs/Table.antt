@@ -271,17 +271,10 @@ isSign Sign = true
 isSign Number = false
 isSign Size = false
 
-abbrev pub isSize : Form → Bool
-isSize Words = false
-isSize Code = false
-isSize Sign = false
-isSize Number = false
-isSize Size = true
-
--- the field of X, the first coordinate's number; Y is two fields after it, Z four. 0 where the file has none
-abbrev pub firstSize : List Col → ℕ → ℕ
-firstSize [] f = 0
-firstSize (c ∷ cs) f = pick (isSize (c .form)) f (firstSize cs (suc f))
+-- the field of X, which is after the first sign; Y is two fields after it, Z four. 0 where the file has none
+abbrev pub afterSign : List Col → ℕ → ℕ
+afterSign [] f = 0
+afterSign (c ∷ cs) f = pick (isSign (c .form)) (suc f) (afterSign cs (suc f))
 
 abbrev pub xField : Kind → ℕ
-xField k = firstSize (fields k) 1
+xField k = afterSign (fields k) 1

@@ -11,9 +11,9 @@ ghost use Prim.Native.Nat.{_+_, _*_, _/_, _%_, _<_};
 ghost use lib.ListN.{getD};
 ghost use Rattle.laws.specs.Row.{pick};
 ghost use Rattle.record.specs.Table.{whole, offsetIn, required, formAt, widthAt, mustAt, backAt, aheadAt, domainAt, targetOf, ownAt, offsetAt};
-ghost use Rattle.record.specs.machinery.Packed.{digitOf, packedOf, formDigit, formOf, domainDigit, domainOf, mustDigit, targetFile, targetField, targetBy};
+ghost use Rattle.record.specs.machinery.Packed.{digitOf, digitAt, packedOf, formDigit, formOf, domainDigit, domainOf, targetFile, targetField, targetBy};
 
-// The digit of a place in a kind's number.
+// The digit of a place in a kind's number,
 fn digit(n: u64, f: usize) -> usize
     requires { ⌜ f < 16 ⌝ }
     ensures { λ r. ⌜ r ≡ digitOf n f ⌝ }
@@ -21,13 +21,12 @@ fn digit(n: u64, f: usize) -> usize
     ((n >> (4 * f)) % 16) as usize
 }
 
-// What has its two digits in two numbers.
-fn two_digits(high: u64, low: u64, f: usize) -> usize
-    requires { ⌜ f < 16 ⌝ }
-    ensures { λ r. ⌜ r ≡ digitOf high f * 16 + digitOf low f ⌝ }
-    ensures small { λ r. ⌜ r < 256 ⌝ }
+// and 0 past the sixteenth.
+fn digit_at(n: u64, f: usize) -> usize
+    ensures { λ r. ⌜ r ≡ digitAt n f ⌝ }
+    ensures small { λ r. ⌜ r < 16 ⌝ }
 {
-    digit(high, f) * 16 + digit(low, f)
+    if f < 16 { digit(n, f) } else { 0 }
 }
 
 fn form_of(n: usize) -> Form
@@ -143,7 +142,7 @@ impl Kind {
 
     // 1 where the place may not be missing,
     fn musts(self) -> u64
-        ensures { λ r. ⌜ r ≡ packedOf (λ cs f. mustDigit (getD cs f whole .must)) self ⌝ }
+        ensures { λ r. ⌜ r ≡ packedOf (λ cs f. pick (required (getD cs f whole .must)) 1 0) self ⌝ }
     {
         match self {
             Kind::Catalogo => 0x0000000000000110,
@@ -250,11 +249,7 @@ impl Kind {
     pub fn form(self, f: usize) -> Form
         ensures { λ r. ⌜ r ≡ formAt self f ⌝ }
     {
-        if f < 16 {
-            form_of(digit(self.forms(), f))
-        } else {
-            Form::Words
-        }
+        form_of(digit_at(self.forms(), f))
     }
 
     // The width of a field, and 0 of any other place.
@@ -262,20 +257,16 @@ impl Kind {
         ensures { λ r. ⌜ r ≡ widthAt self f ⌝ }
         ensures small { λ r. ⌜ r < 256 ⌝ }
     {
-        if f < 16 {
-            two_digits(self.widths_high(), self.widths_low(), f)
-        } else {
-            0
-        }
+        digit_at(self.widths_high(), f) * 16 + digit_at(self.widths_low(), f)
     }
 
-    // Where a field begins in the record.
+    // Where a field begins in the record; past the last stands its end.
     pub fn offset(self, f: usize) -> usize
         ensures { λ r. ⌜ r ≡ offsetAt self f ⌝ }
         ensures small { λ r. ⌜ r < 256 ⌝ }
     {
         if f < 16 {
-            two_digits(self.offsets_high(), self.offsets_low(), f)
+            digit(self.offsets_high(), f) * 16 + digit(self.offsets_low(), f)
         } else {
             self.length() - 1
         }
@@ -285,11 +276,7 @@ impl Kind {
     pub fn must(self, f: usize) -> bool
         ensures { λ r. ⌜ r ≡ required (mustAt self f) ⌝ }
     {
-        if f < 16 {
-            digit(self.musts(), f) == 1
-        } else {
-            false
-        }
+        digit_at(self.musts(), f) == 1
     }
 
     // How many fields before a field are its partners,
@@ -297,7 +284,7 @@ impl Kind {
         ensures { λ r. ⌜ r ≡ backAt self f ⌝ }
         ensures small { λ r. ⌜ r < 256 ⌝ }
     {
-        if f < 16 { digit(self.backs(), f) } else { 0 }
+        digit_at(self.backs(), f)
     }
 
     // and how many after it.
@@ -305,41 +292,29 @@ impl Kind {
         ensures { λ r. ⌜ r ≡ aheadAt self f ⌝ }
         ensures small { λ r. ⌜ r < 256 ⌝ }
     {
-        if f < 16 { digit(self.aheads(), f) } else { 0 }
+        digit_at(self.aheads(), f)
     }
 
     pub fn domain(self, f: usize) -> Domain
         ensures { λ r. ⌜ r ≡ domainAt self f ⌝ }
     {
-        if f < 16 {
-            domain_of(digit(self.domains(), f))
-        } else {
-            Domain::Any
-        }
+        domain_of(digit_at(self.domains(), f))
     }
 
     // What a field refers to.
     pub fn target(self, f: usize) -> Target
         ensures { λ r. ⌜ r ≡ targetOf self f ⌝ }
     {
-        if f < 16 {
-            target_by(
-                digit(self.target_files(), f),
-                digit(self.target_fields(), f),
-            )
-        } else {
-            Target::Free
-        }
+        target_by(
+            digit_at(self.target_files(), f),
+            digit_at(self.target_fields(), f),
+        )
     }
 
     // Whether the record's own id stands for a field that is blank.
     pub fn own(self, f: usize) -> bool
         ensures { λ r. ⌜ r ≡ ownAt self f ⌝ }
     {
-        if f < 16 {
-            digit(self.owns(), f) == 1
-        } else {
-            false
-        }
+        digit_at(self.owns(), f) == 1
     }
 }

@@ -5,7 +5,7 @@ use Prim.Native.Nat.{ℕ, zero, suc, _+_, _-_, _≤_}
 use mathlib.Core.Bool.{Bool, true, false, _&&_}
 use mathlib.Core.List.{List, [], _∷_}
 use mathlib.Core.Option.{Option, none, some}
-use mathlib.Core.Path.{_≡_, refl, sym, ap, _∙_}
+use mathlib.Core.Path.{_≡_, refl, sym, _∙_}
 use native.Mathlib.Numerals.{add-one}
 use native.Mathlib.Omega.{arith}
 use lib.Dec.{eqb}
@@ -18,10 +18,10 @@ use Rattle.index.specs.declared.Found.{Found}
 use Rattle.index.specs.declared.Found.the-variants.{Nothing}
 use Rattle.index.specs.Keys.{foundOf}
 use Rattle.record.specs.declared.kind.Kind.{Kind}
-use Rattle.record.specs.declared.kind.Kind.the-variants.{Catalogo, ObPun, ObLin, Tramo, Vertice, Nodo}
+use Rattle.record.specs.declared.kind.Kind.the-variants.{ObPun, ObLin, Tramo, Vertice, Nodo}
 use Rattle.record.specs.declared.reason.Reason.the-variants.{LongFile10, SamePlace54}
-use Rattle.record.specs.Table.{fileOf, kinds}
-use Rattle.record.proofs.TableLaws.{NoneOf, kind-at}
+use Rattle.record.specs.Table.{fileOf}
+use Rattle.record.proofs.TableLaws.{NoneOf, file-same}
 use Rattle.record.specs.Says.{Table}
 use Rattle.record.specs.Files.{Delivery}
 use Rattle.keys.specs.Rules.{orFirst}
@@ -49,13 +49,10 @@ else-default : {A : Type 0} {d : A} {u : ℕ} {xs : List A} → Else d u 0 xs �
 else-default {u = u} o = else-from o u (omega arith)
 
 -- WHERE A RULE IS READ
-same-kind : (k file : Kind) → fileOf k ≡ fileOf file → k ≡ file
-same-kind k file e = sym (kind-at k) ∙ ap (λ (n : ℕ). getD kinds (n - 1) Catalogo) e ∙ kind-at file
-
 pub read-at : (file : Kind) (field : ℕ) (k : Kind) (f : ℕ) → isAt file field k f ≡ true → (k ≡ file) × (f ≡ field)
 read-at file field k f e =
     let h = and-true (eqb (fileOf k) (fileOf file)) (eqb f field) e in
-    (same-kind k file (eqb-true (fileOf k) (fileOf file) (h .0)), eqb-true f field (h .1))
+    (file-same k file (eqb-true (fileOf k) (fileOf file) (h .0)), eqb-true f field (h .1))
 
 -- no rule is read of file k at field f for the reason u
 pub record Free (k : Kind) (f u : ℕ) : Type 0 where

@@ -4,10 +4,9 @@
 use Rattle.keys.specs.Groups.{Tests, groupFinding, brokenBy, overFiles}
 use Rattle.record.specs.declared.reason.Finding.{Finding}
 use Prim.Native.Nat.{ℕ, zero, suc, _+_, _-_, _%_, max}
-use mathlib.Core.Bool.{Bool, true, false, not, _&&_, _||_}
+use mathlib.Core.Bool.{Bool, false, not, _&&_, _||_}
 use mathlib.Core.List.{List, [], _∷_}
 use lib.Dec.{ltb, eqb}
-use lib.ListN.{getD}
 use Rattle.laws.specs.Find.{firstIndex, any, names}
 use Rattle.laws.specs.Row.{pick}
 use Rattle.index.specs.Look.{keyLine}

@@ -2,7 +2,7 @@
 -- Assumes nothing.
 use Prim.Native.Nat.{ℕ, zero, suc, _+_, _*_, _/_, _%_, _^_}
 use mathlib.Core.List.{List, [], _∷_}
-use lib.Dec.{eqb}
+use lib.Dec.{eqb, ltb}
 use lib.ListN.{getD}
 use Rattle.laws.specs.Row.{pick}
 use Rattle.record.specs.declared.kind.Kind.{Kind}
@@ -14,7 +14,7 @@ use Rattle.record.specs.declared.kind.Target.{Target}
 use Rattle.record.specs.declared.kind.Target.the-variants.{Free, Nowhere, To}
 use Rattle.record.specs.declared.kind.Which.{Which}
 use Rattle.record.specs.declared.kind.Which.the-variants.{NoFile, File}
-use Rattle.record.specs.Table.{Col, whole, fields, fileOf, whichOf, Must, never, always}
+use Rattle.record.specs.Table.{Col, whole, fields, fileOf, whichOf}
 
 -- the digits of forms and domains, and back
 abbrev pub formDigit : Form → ℕ
@@ -34,11 +34,6 @@ domainDigit PlusMinus = 2
 
 unfoldable pub domainOf : ℕ → Domain
 domainOf n = getD (Any ∷ ObjectType ∷ PlusMinus ∷ []) n Any
-
--- 1 for what may not be missing
-abbrev pub mustDigit : Must → ℕ
-mustDigit never = 0
-mustDigit always = 1
 
 -- what a field refers to, by the number of a file and a field: 0 is nothing, 15 a file that is not there
 abbrev pub targetFile : Target → ℕ
@@ -71,6 +66,9 @@ packedIn g (c ∷ cs) = packed (g (whole ∷ c ∷ cs)) 16
 abbrev pub packedOf : (List Col → ℕ → ℕ) → Kind → ℕ
 packedOf g k = packedIn g (fields k)
 
--- and the digit of a place
+-- and the digit of a place; 0 past the sixteenth
 abbrev pub digitOf : ℕ → ℕ → ℕ
 digitOf n f = n / 2 ^ (4 * f) % 16
+
+unfoldable pub digitAt : ℕ → ℕ → ℕ
+digitAt n f = pick (ltb f 16) (digitOf n f) 0

@@ -2,7 +2,6 @@
 -- Assumes nothing.
 use Prim.Native.Nat.{ℕ}
 use mathlib.Core.Bool.{Bool}
-use Rattle.record.specs.declared.kind.Kind.the-variants.{Vertice}
 use Rattle.record.specs.Says.{Table}
 use Rattle.record.specs.Names.{vertexKey}
 use Rattle.topology.specs.declared.ends.End.{End}

@@ -1,6 +1,6 @@
 -- `record::names::record_key` meets its contract.
 -- Assumes nothing.
-use mathlib.Core.Path.{sym, _∙_}
+use mathlib.Core.Path.{_∙_}
 use Rattle.record.proofs.NameLaws.{key-name}
 use borrow.Author.Needs.{needs}
 use Rattle.record.proofs.names.record_key.Statement.{statement}

@@ -1,6 +1,5 @@
 -- `record::table::target_by` meets its contract.
 -- Assumes nothing.
-use mathlib.Core.Path.{_∙_, sym}
 use borrow.Author.Needs.{needs}
 use borrow.Author.Tests.{eq-eqb, ne-eqb}
 use Rattle.record.specs.machinery.Packed.{targetBy}

@@ -1,23 +1,33 @@
--- `Kind::offset` meets its contract: its tables are those of `offsetAt`, by its two digits, and past them stands the end of the record.
+-- `record::kind::Kind::offset` meets its contract.
 -- Assumes nothing.
-use borrow.Author.Needs.{needs}
+use Prim.Native.Nat.{_/_, _%_}
 use native.Mathlib.Omega.{arith}
-use mathlib.Core.Path.{refl, _∙_}
+use mathlib.Core.Path.{refl}
 use Rattle.laws.specs.Row.{row, each}
 use Rattle.record.specs.Table.{offsetIn, offsetAt}
 use Rattle.record.proofs.TableLaws.{everywhere, sane, offset-end}
-use Rattle.record.proofs.PackedLaws.{read-two}
+use Rattle.record.proofs.PackedLaws.{read}
+use borrow.Author.Needs.{needs}
 use Rattle.record.proofs.kind.Kind.offset.Statement.{statement}
 use Rattle.record.proofs.kind.Kind.offset.Tie as tie
 
 offsets-high-requires : tie.Need-offsets-high-requires
 offsets-high-requires c κs = search needs
 
+digit-requires : tie.Need-digit-requires
+digit-requires c κs = search needs
+
+mul-result : tie.Need-mul-result
+mul-result c = search needs
+
 offsets-low-requires : tie.Need-offsets-low-requires
 offsets-low-requires c κs = search needs
 
-two-digits-requires : tie.Need-two-digits-requires
-two-digits-requires c κs = search needs
+digit-requires-2 : tie.Need-digit-requires-2
+digit-requires-2 c κs = search needs
+
+add-result : tie.Need-add-result
+add-result c = search needs
 
 length-requires : tie.Need-length-requires
 length-requires c κs = search needs
@@ -27,27 +37,21 @@ sub-result c = omega (arith, sane (c .before .before .args .self))
 
 returns : tie.Need-returns
 unfolding everywhere each row offsetAt
-returns c =
-    let h = c .before .before in
-    let a = h .before .before .args in (
-      c .two-digits .ensures .0 ∙ read-two offsetIn refl refl (a .self) (a .f) (h .offsets-high .ensures) (c .before .offsets-low .ensures) (h .before .if1 .taken),
-      c .two-digits .ensures .1,
-    )
+returns c = let h = read (λ cs f. offsetIn cs f / 16) refl (c .before .before .before .before .before .args .self) (c .before .before .before .before .before .args .f) (c .before .before .before .offsets-high .ensures) (c .before .before .before .before .if1 .taken) in let l = read (λ cs f. offsetIn cs f % 16) refl (c .before .before .before .before .before .args .self) (c .before .before .before .before .before .args .f) (c .before .offsets-low .ensures) (c .before .before .before .before .if1 .taken) in (omega (arith, c .before .before .digit .ensures, c .digit2 .ensures), omega (arith, c .before .before .digit .ensures, c .digit2 .ensures))
 
 returns-2 : tie.Need-returns-2
-returns-2 c =
-    let a = c .before .before .args in
-    let s = sane (a .self) in
-    let e = offset-end (a .self) (a .f) (omega arith) in
-    (omega arith, omega arith)
+returns-2 c = let s = sane (c .before .before .args .self) in let e = offset-end (c .before .before .args .self) (c .before .before .args .f) (omega arith) in (omega arith, omega arith)
 
 pub offset-spec : {M : Type 1} → statement M
 offset-spec =
     tie.close
     (tie.spec
     offsets-high-requires
+    digit-requires
+    mul-result
     offsets-low-requires
-    two-digits-requires
+    digit-requires-2
+    add-result
     length-requires
     sub-result
     returns
