@@ -27,7 +27,7 @@ use Rattle.codec.specs.declared.values.Answer.the-variants.{Done, Refused}
 use Rattle.codec.specs.declared.values.Reading.{Reading}
 use Rattle.codec.specs.Calls.{Writes, readOf}
 use Rattle.canopyrail.specs.Answers.{refusalWord, answerWord}
-use Rattle.canopyrail.specs.Lent.{strung, lentLength, Holds, lentValue, WritesLent, roomy, readAnswer, Reads}
+use Rattle.canopyrail.specs.Lent.{strung, lentLength, Holds, heldValue, WritesLent, roomy, readAnswer, Reads}
 use Rattle.canopyrail.proofs.CallLaws.{refusal-told}
 
 -- LENT MEMORY FILLED: the first i places are put, and the rest is as it was
@@ -134,8 +134,8 @@ module _ (v : Values) (n₀ : List ℕ) (c₀ : List ℤ) (l₀ t₀ : List ℕ)
 pub value-lent :
     (numbers : List ℕ) (coordinates : List ℤ) (lengths texts : List ℕ) (i : ℕ) {len number : ℕ} {coordinate : ℤ} {t text : List ℕ}
     → len ≡ getD lengths i 0 → number ≡ getD numbers i 0 → coordinate ≡ getD coordinates i (pos 0) → t ≡ take 60 (drop (60 * i) texts) → text ≡ padded 60 (firstBytes (length t) t)
-    → record { given = not (eqb len 0); number = number; coordinate = coordinate; len = len; text = text } ≡ lentValue numbers coordinates lengths texts i
-unfolding lentValue
+    → record { given = not (eqb len 0); number = number; coordinate = coordinate; len = len; text = text } ≡ heldValue numbers coordinates lengths texts i
+unfolding heldValue
 value-lent numbers coordinates lengths texts i {len} {number} {coordinate} {t} {text} el en ec et ex =
     let f : firstBytes (length t) t ≡ t = first-bytes-le (length t) t (omega arith) ∙ take-length t in
     let x : text ≡ padded 60 (take 60 (drop (60 * i) texts)) = ex ∙ rw f (ap (padded 60) et) in

@@ -5,7 +5,7 @@ use Prim.Native.Nat.{ℕ, zero, suc, _+_, _*_}
 use mathlib.Core.Bool.{Bool, true, false, not, _&&_}
 use mathlib.Core.List.{List, [], _++_}
 use mathlib.Core.Path.{_≡_}
-use lib.Dec.{eqb, ltb}
+use lib.Dec.{eqb, ltb, leb}
 use lib.IntN.{ℤ, pos}
 use lib.ListN.{length, getD, take, drop}
 use Rattle.laws.specs.Row.{pick, row}
@@ -19,7 +19,7 @@ use Rattle.codec.specs.declared.values.Value.{Value}
 use Rattle.codec.specs.declared.values.Values.{Values}
 use Rattle.codec.specs.declared.values.Answer.{Answer}
 use Rattle.codec.specs.declared.values.Answer.the-variants.{Done, Refused}
-use Rattle.codec.specs.Values.{valueAt}
+use Rattle.codec.specs.Values.{noValue, valueAt}
 use Rattle.codec.specs.Calls.{readOf, Writes}
 use Rattle.canopyrail.specs.Answers.{answerWord, refusalWord}
 
@@ -93,9 +93,9 @@ pub record Reads (file : ℕ) (bytes : List ℕ) (n : ℕ) (numbers : List ℕ) 
   pub textsStay : (r ≡ 0 → ⊥) → texts' ≡ texts
 
 -- WRITING
--- the value of field i + 1; past the end of what is lent nothing is said
-unfoldable pub lentValue : List ℕ → List ℤ → List ℕ → List ℕ → ℕ → Value
-lentValue numbers coordinates lengths texts i =
+-- what the four arrays hold of field i + 1
+unfoldable pub heldValue : List ℕ → List ℤ → List ℕ → List ℕ → ℕ → Value
+heldValue numbers coordinates lengths texts i =
     record {
       given = not (eqb (getD lengths i 0) 0);
       number = getD numbers i 0;
@@ -103,6 +103,15 @@ lentValue numbers coordinates lengths texts i =
       len = getD lengths i 0;
       text = padded widest (take widest (drop (widest * i) texts));
     }
+
+-- all four arrays, of these lengths, reach field i + 1
+unfoldable pub isLent : ℕ → ℕ → ℕ → ℕ → ℕ → Bool
+isLent numbers coordinates lengths texts i = ltb i numbers && ltb i coordinates && ltb i lengths && leb (widest * i + widest) texts
+
+-- the value of field i + 1; past the end of a shorter array every value is missing
+unfoldable pub lentValue : List ℕ → List ℤ → List ℕ → List ℕ → ℕ → Value
+lentValue numbers coordinates lengths texts i =
+    pick (isLent (length numbers) (length coordinates) (length lengths) (length texts) i) (heldValue numbers coordinates lengths texts i) noValue
 
 unfoldable pub lentValues : List ℕ → List ℤ → List ℕ → List ℕ → Values
 lentValues numbers coordinates lengths texts = record { at = row (lentValue numbers coordinates lengths texts) mostFields }

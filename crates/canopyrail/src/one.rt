@@ -20,7 +20,7 @@ ghost use lib.ListN.{length, getD, take, drop};
 ghost use lib.Dec.{ltb};
 ghost use Rattle.record.specs.Table.{mostFields};
 ghost use Rattle.codec.specs.Calls.{readOf};
-ghost use Rattle.canopyrail.specs.Lent.{lentLength, roomy, Holds, Reads, lentValue, lentValues, WritesLent, textRoom};
+ghost use Rattle.canopyrail.specs.Lent.{lentLength, roomy, Holds, Reads, isLent, heldValue, lentValue, lentValues, WritesLent, textRoom};
 ghost use Rattle.canopyrail.specs.Answers.{answerWord};
 
 // The texts of all fields, one after another.
@@ -125,8 +125,8 @@ fn length_at(lengths: &[usize], i: usize) -> usize
     if i < lengths.len() { lengths[i] } else { 0 }
 }
 
-// The value of field i + 1.
-fn lent_value(
+// What the four arrays hold of field i + 1.
+fn held_value(
     numbers: &[u64],
     coordinates: &[i64],
     lengths: &[usize],
@@ -134,7 +134,7 @@ fn lent_value(
     i: usize,
 ) -> Value
     requires { ⌜ i < mostFields ⌝ }
-    ensures { λ r. ⌜ r ≡ lentValue (now (numbers .entry)) (now (coordinates .entry)) (now (lengths .entry)) (now (texts .entry)) i ⌝ }
+    ensures { λ r. ⌜ r ≡ heldValue (now (numbers .entry)) (now (coordinates .entry)) (now (lengths .entry)) (now (texts .entry)) i ⌝ }
 {
     let len = length_at(lengths, i);
     let t = part(texts, WIDEST * i, WIDEST);
@@ -146,6 +146,39 @@ fn lent_value(
         coordinate: coordinate_at(coordinates, i),
         len,
         text,
+    }
+}
+
+// Whether all four arrays, of these lengths, reach field i + 1.
+fn is_lent(numbers: usize, coordinates: usize, lengths: usize, texts: usize, i: usize) -> bool
+    requires { ⌜ i < mostFields ⌝ }
+    ensures { λ r. ⌜ r ≡ isLent numbers coordinates lengths texts i ⌝ }
+{
+    let end = WIDEST * i + WIDEST;
+    (i < numbers) & (i < coordinates) & (i < lengths) & (end <= texts)
+}
+
+// The value of field i + 1. Past the end of a shorter array every value is missing: a length without its number says nothing.
+fn lent_value(
+    numbers: &[u64],
+    coordinates: &[i64],
+    lengths: &[usize],
+    texts: &[u8],
+    i: usize,
+) -> Value
+    requires { ⌜ i < mostFields ⌝ }
+    ensures { λ r. ⌜ r ≡ lentValue (now (numbers .entry)) (now (coordinates .entry)) (now (lengths .entry)) (now (texts .entry)) i ⌝ }
+{
+    if is_lent(
+        numbers.len(),
+        coordinates.len(),
+        lengths.len(),
+        texts.len(),
+        i,
+    ) {
+        held_value(numbers, coordinates, lengths, texts, i)
+    } else {
+        missing_value()
     }
 }
 
