@@ -4,7 +4,9 @@
 //! What makes every block below sound: a Rust slice or array is valid for its length, aligned for
 //! its type and at most `isize::MAX` bytes long; its pointer is never null, not even at length 0; a
 //! call only borrows, keeps nothing, and writes nothing but memory that is passed here as `&mut`,
-//! which overlaps no other. Every call but the judging takes so little stack that any thread has it.
+//! which overlaps no other. Every call but the judging takes less than 64 KiB of stack
+//! (examples/stack.c measures it), and a stack with less left is met at its guard page
+//! (tests/guard.c), as with any function.
 
 use std::io;
 use std::thread;
