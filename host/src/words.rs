@@ -74,7 +74,8 @@ pub const fn of(reason: Reason) -> Words {
                   code page), without tabs or other control bytes.",
         },
         Reason::Missing => Words {
-            wrong: "Something is missing that must be there.",
+            wrong: "Something is missing that must be there, or a sign or a number stands without \
+                    its partner.",
             rule: "Codes, own ids, the catalogue's TIPO, a vertex's line and order, a text's \
                    ALTURA and JUSTIFI, a tramo's linear object and nodes, and X and Y with their \
                    signs must be there. A sign and its number are both there or both blank. In \
@@ -89,7 +90,8 @@ pub const fn of(reason: Reason) -> Words {
             wrong: "The field holds something that it may not.",
             rule: "The catalogue's TIPO is P, X, L or T. A sign is + or -, and - never stands \
                    before zero. A tramo's SENTIDO is +, - or blank.",
-            look: "The field; of a sign also the number after it.",
+            look: "The field: a type that is not P, X, L or T, a sign that is not + or -, - before \
+                   zero.",
             ask: "To use MIGRA's letters and signs, and to write zero with +.",
         },
         Reason::SameKey => Words {
@@ -142,7 +144,7 @@ pub const fn of(reason: Reason) -> Words {
             wrong: "The line starts elsewhere than its start node.",
             rule: "The vertex of order 1 of a tramo's line has the X and Y of the tramo's start \
                    node, whatever the tramo's SENTIDO. Z is not asked.",
-            look: "The vertex of order 1 of the tramo's line, and the node in field 6.",
+            look: "X and Y of the vertex of order 1 of the tramo's line, and of the node in field 6.",
             ask: "To bring both to one place, or to name the right node. Start and end node may \
                   have been exchanged.",
         },
@@ -150,13 +152,14 @@ pub const fn of(reason: Reason) -> Words {
             wrong: "The line ends elsewhere than its end node.",
             rule: "The vertex of highest order of a tramo's line has the X and Y of the tramo's \
                    end node, whatever the tramo's SENTIDO. Z is not asked.",
-            look: "The vertex of highest order of the tramo's line, and the node in field 7.",
+            look: "X and Y of the vertex of highest order of the tramo's line, and of the node in \
+                   field 7.",
             ask:
                 "To bring both to one place, or to name the right node. Vertices that were sorted \
                   as text (10 before 2) and then numbered anew end up here.",
         },
         Reason::SamePlace => Words {
-            wrong: "Two nodes are at one place.",
+            wrong: "Two nodes are at one place, with the same X, Y and Z.",
             rule: "No two nodes have the same X, Y and Z. A missing Z equals only a missing Z.",
             look: "The node and the earlier one.",
             ask: "To keep one of the two and to name it everywhere.",
@@ -164,12 +167,13 @@ pub const fn of(reason: Reason) -> Words {
         Reason::PointElsewhere => Words {
             wrong: "The point object is elsewhere than the node it names.",
             rule: "A point object that names a node has the node's X and Y. Z is not asked.",
-            look: "The object's position and the node's.",
+            look: "X and Y of the object and of the node.",
             ask: "To mend one of the two places, to name the right node, or to blank the node's \
                   id.",
         },
         Reason::IdleNode => Words {
-            wrong: "The node is used by nothing.",
+            wrong: "The node is used by nothing: no tramo starts or ends there, no vertex is there, no \
+                    point object names it.",
             rule:
                 "A node starts or ends a tramo, or has the X and Y of a vertex, or is named by a \
                    point object.",
@@ -187,7 +191,7 @@ pub const fn of(reason: Reason) -> Words {
             rule:
                 "A tramo's line has a vertex of highest order. A line without any vertex is told \
                    as reason 40 before this.",
-            look: "The vertices of the tramo's line.",
+            look: "It is never told first, since reason 40 comes before it.",
             ask: "To send the line's vertices.",
         },
         Reason::NoFile => Words {
@@ -211,7 +215,8 @@ pub const fn of(reason: Reason) -> Words {
             ask: "Give a smaller number, or one of the field's own form.",
         },
         Reason::BadText => Words {
-            wrong: "The text does not fit its field.",
+            wrong: "The text is too long, has a byte that no text may have, or begins or ends in a \
+                    blank.",
             rule: "A text has at most as many bytes as its field, only bytes 20 to 7E and A0 to \
                    FF, and neither begins nor ends in a blank.",
             look: "The field's text.",

@@ -96,7 +96,7 @@ fn breaks_and_refusals_are_errors_in_words() {
     );
     assert_eq!(
         judged(s().node("0000000003", "000000100", "0000000200")),
-        "NODO record 3: reason 54: two nodes are at one place"
+        "NODO record 3: reason 54: two nodes are at one place, with the same X, Y and Z"
     );
     let long = Break {
         reason: Reason::LongFile,
