@@ -1,7 +1,7 @@
 /*
  * calls.c: checks the calls of libcanopyrail.a as a C program sees them.
  *
- *     cc -std=c11 -I include examples/calls.c libcanopyrail.a -o calls && ./calls
+ *     cc -std=c11 -I include examples/calls.c "$(tools/archive)/libcanopyrail.a" -o calls && ./calls
  *
  * Prints the number of checks and exits with 0, or prints the first check that fails, with its line
  * in this file, and exits with 1. A call that touches a byte too many ends the program. For that

@@ -1,7 +1,7 @@
 /*
  * judge.c: judges the delivery in a directory with libcanopyrail.a.
  *
- *     cc -std=c11 -I include examples/judge.c libcanopyrail.a -o judge
+ *     cc -std=c11 -pthread -I include examples/judge.c "$(tools/archive)/libcanopyrail.a" -o judge
  *     ./judge DIR
  *
  * Prints the verdict's line. Of a refused delivery it then prints the values of the record that the
@@ -9,11 +9,14 @@
  *
  * Exit status: 0 accepted, 1 refused, 2 could not judge.
  */
+#define _POSIX_C_SOURCE 200809L
 #include <errno.h>
 #include <inttypes.h>
+#include <pthread.h>
 #include <stdio.h>
 #include <stdlib.h>
 #include <string.h>
+#include <sys/stat.h>
 
 #include "canopyrail.h"
 
@@ -56,28 +59,45 @@ static int read_bytes(FILE *source, size_t most, held *file)
 }
 
 /*
+ * Opens a file of the delivery; NULL where there is none of the name. Answers whether there was no
+ * trouble. Only a regular file is one of a delivery: opening a pipe could wait forever, and a link
+ * to nothing is no absent file.
+ */
+static int open_file(const char *path, FILE **source)
+{
+    struct stat found;
+
+    *source = NULL;
+    if (stat(path, &found) != 0)
+        return errno == ENOENT && lstat(path, &found) != 0;
+    if (S_ISREG(found.st_mode))
+        *source = fopen(path, "rb");
+    return *source != NULL;
+}
+
+/*
  * Reads a file of the delivery. An absent one is empty. One byte past the limit is enough for the
  * library to tell that a file is too long, so no more is read.
  */
 static int read_file(const char *path, size_t most, held *file)
 {
-    FILE *source = fopen(path, "rb");
+    FILE *source;
 
+    if (!open_file(path, &source))
+        return 0;
     if (source == NULL)
-        return errno == ENOENT;
+        return 1;
     int fine = read_bytes(source, most, file);
     fclose(source);
     return fine;
 }
 
-/* Whether the name is there: a mistyped one would be a delivery of no files, and accepted. */
-static int is_there(const char *directory)
+/* Whether it is a folder: a mistyped name would be a delivery of no files, and accepted. */
+static int is_folder(const char *path)
 {
-    FILE *source = fopen(directory, "rb");
+    struct stat found;
 
-    if (source != NULL)
-        fclose(source);
-    return source != NULL;
+    return stat(path, &found) == 0 && S_ISDIR(found.st_mode);
 }
 
 /* Reads the seven files; delivery[1] is CATALOGO. Answers the first that can't be read, or 0. */
@@ -97,14 +117,40 @@ static size_t read_delivery(const char *directory, held delivery[FILES + 1])
     return trouble;
 }
 
-/* The call takes up to CANOPYRAIL_STACK bytes of stack. A main thread has 8 MiB on most systems. */
-static uint64_t judge(const held delivery[FILES + 1])
-{
+/* A judging, and what it answers. */
+typedef struct {
     canopyrail_bytes files[FILES];
+    uint64_t answer;
+} judging;
+
+static void *run(void *given)
+{
+    judging *work = given;
+
+    work->answer = canopyrail_judge(work->files, FILES);
+    return NULL;
+}
+
+/*
+ * Judges on a thread whose stack is known to do: the call takes up to CANOPYRAIL_STACK bytes of it.
+ * A main thread has 8 MiB on most systems, but that can be set lower, and other threads often have
+ * less. The thread's own start takes a little more. Answers whether there was no trouble.
+ */
+static int judge(const held delivery[FILES + 1], uint64_t *answer)
+{
+    judging work = {.answer = 0};
+    pthread_attr_t how;
+    pthread_t thread;
 
     for (size_t file = 1; file <= FILES; file++)
-        files[file - 1] = (canopyrail_bytes){delivery[file].bytes, delivery[file].length};
-    return canopyrail_judge(files, FILES);
+        work.files[file - 1] = (canopyrail_bytes){delivery[file].bytes, delivery[file].length};
+    if (pthread_attr_init(&how) != 0)
+        return 0;
+    int fine = pthread_attr_setstacksize(&how, CANOPYRAIL_STACK + 64 * 1024) == 0 &&
+               pthread_create(&thread, &how, run, &work) == 0 && pthread_join(thread, NULL) == 0;
+    pthread_attr_destroy(&how);
+    *answer = work.answer;
+    return fine;
 }
 
 static void print_line(uint64_t answer, const held delivery[FILES + 1])
@@ -173,6 +219,22 @@ static void print_record(uint64_t answer, const held delivery[FILES + 1])
     }
 }
 
+/* Judges a delivery that was read, prints what is found and answers the exit status. */
+static int report(const held delivery[FILES + 1])
+{
+    uint64_t answer;
+
+    if (!judge(delivery, &answer)) {
+        fprintf(stderr, "judge: no thread to judge on\n");
+        return FAILED;
+    }
+    print_line(answer, delivery);
+    if (answer == CANOPYRAIL_FINE)
+        return ACCEPTED;
+    print_record(answer, delivery);
+    return REFUSED;
+}
+
 int main(int argc, char **argv)
 {
     held delivery[FILES + 1] = {{NULL, 0}};
@@ -182,21 +244,20 @@ int main(int argc, char **argv)
         fprintf(stderr, "usage: judge DIR\n");
         return FAILED;
     }
-    if (!is_there(argv[1])) {
-        fprintf(stderr, "judge: can't read %s\n", argv[1]);
+    if (!is_folder(argv[1])) {
+        fprintf(stderr, "judge: %s is no folder that can be read\n", argv[1]);
         return FAILED;
     }
     size_t trouble = read_delivery(argv[1], delivery);
-    if (trouble != 0) {
+    if (trouble != 0)
         fprintf(stderr, "judge: can't read %s/%s\n", argv[1], names[trouble]);
-    } else {
-        uint64_t answer = judge(delivery);
-        print_line(answer, delivery);
-        if (answer != CANOPYRAIL_FINE)
-            print_record(answer, delivery);
-        status = answer == CANOPYRAIL_FINE ? ACCEPTED : REFUSED;
-    }
+    else
+        status = report(delivery);
     for (size_t file = 1; file <= FILES; file++)
         free(delivery[file].bytes);
+    if (fflush(stdout) != 0) {
+        fprintf(stderr, "judge: can't write\n");
+        return FAILED;
+    }
     return status;
 }

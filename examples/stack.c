@@ -1,6 +1,10 @@
 /*
- * How much stack a judging takes: each delivery named is judged on a thread whose stack was painted before, and what lost its paint is
- * counted. Prints the most of all, and fails where that passes CANOPYRAIL_STACK.
+ * How much stack the calls take: those on each delivery named are made on a thread whose stack was painted before, and what lost its
+ * paint is counted. Prints the most that a judging and any other call took, and fails where that passes CANOPYRAIL_STACK or the
+ * 64 KiB that the header names for the others.
+ *
+ *     cc -std=c11 -pthread -I include examples/stack.c "$(tools/archive)/libcanopyrail.a" -o stack
+ *     ./stack DIR...
  */
 #define _DEFAULT_SOURCE
 #include <pthread.h>
@@ -8,23 +12,57 @@
 #include <stdlib.h>
 #include <string.h>
 #include <sys/mman.h>
+#include <sys/stat.h>
 
 #include "canopyrail.h"
 
-enum { FILES = CANOPYRAIL_FILES, PAINT = 0xA5, ROOM = 4 * CANOPYRAIL_STACK };
+enum { FILES = CANOPYRAIL_FILES, PAINT = 0xA5, ROOM = 2 * CANOPYRAIL_STACK, OTHERS = 64 * 1024 };
 
 static const char *const names[FILES] = {"CATALOGO", "OB_PUN", "OB_TEX", "OB_LIN", "TRAMO", "VERTICE", "NODO"};
 static uint8_t *held[FILES];
 static canopyrail_bytes files[FILES];
-static int idle;
 
-static void *judge(void *unused)
+/* What the calls are lent and what they answer; on the thread's own stack it would be counted. */
+static canopyrail_values values;
+static uint8_t room[CANOPYRAIL_LONGEST];
+static volatile uint64_t answered;
+
+static void idle(void)
 {
-    (void)unused;
-    if (idle)
-        return NULL;
-    (void)canopyrail_judge(files, FILES);
-    return NULL;
+}
+
+static void judge(void)
+{
+    answered = canopyrail_judge(files, FILES);
+}
+
+/* Reads a record and writes it again; a record that can't be read is refused. */
+static void read_and_write(size_t file, size_t record)
+{
+    answered = canopyrail_read_values(file, files[file - 1].bytes, files[file - 1].len, record, &values);
+    answered = canopyrail_write_values(file, &values, room, sizeof room);
+}
+
+static void ask_table(size_t file)
+{
+    answered = canopyrail_fields(file) + canopyrail_length(file);
+    for (size_t field = 0; field <= CANOPYRAIL_FIELDS; field++)
+        answered = canopyrail_offset(file, field) + canopyrail_width(file, field) + canopyrail_form(file, field);
+}
+
+/* Every call but the judging; record 0 and the one past the last too. */
+static void others(void)
+{
+    answered = canopyrail_version();
+    for (size_t file = 1; file <= FILES; file++) {
+        size_t records = canopyrail_count(file, files[file - 1].bytes, files[file - 1].len);
+        for (size_t record = 0; record <= records + 1; record++)
+            read_and_write(file, record);
+        ask_table(file);
+    }
+    const uint64_t answer = 5305000010700000u;
+    answered = canopyrail_reason(answer) + canopyrail_file(answer) + canopyrail_record(answer) + canopyrail_field(answer) +
+               canopyrail_other(answer);
 }
 
 /* Reads what is there of a delivery; an absent file is empty. */
@@ -54,8 +92,18 @@ static void load(const char *folder)
     }
 }
 
-/* The bytes of stack that a turn of the thread takes. */
-static size_t taken(void)
+/* What the thread does. */
+static void (*work)(void);
+
+static void *turn(void *unused)
+{
+    (void)unused;
+    work();
+    return NULL;
+}
+
+/* The bytes of stack that some work takes, with what the thread itself does. */
+static size_t taken(void (*some)(void))
 {
     pthread_attr_t how;
     pthread_t thread;
@@ -64,7 +112,8 @@ static size_t taken(void)
     if (stack == MAP_FAILED)
         exit(2);
     memset(stack, PAINT, ROOM);
-    if (pthread_attr_init(&how) || pthread_attr_setstack(&how, stack, ROOM) || pthread_create(&thread, &how, judge, NULL))
+    work = some;
+    if (pthread_attr_init(&how) || pthread_attr_setstack(&how, stack, ROOM) || pthread_create(&thread, &how, turn, NULL))
         exit(2);
     pthread_join(thread, NULL);
     pthread_attr_destroy(&how);
@@ -74,22 +123,41 @@ static size_t taken(void)
     return ROOM - left;
 }
 
+static size_t greater(size_t a, size_t b)
+{
+    return a > b ? a : b;
+}
+
+static int is_folder(const char *path)
+{
+    struct stat found;
+
+    return stat(path, &found) == 0 && S_ISDIR(found.st_mode);
+}
+
 int main(int argc, char **argv)
 {
-    size_t least, most = 0;
-    idle = 1;
-    least = taken();
-    idle = 0;
+    size_t least = taken(idle);
+    size_t judging = least;
+    size_t other = least;
+
+    if (argc < 2) {
+        fprintf(stderr, "usage: stack DIR...\n");
+        return 2;
+    }
     for (int i = 1; i < argc; i++) {
-        size_t now;
+        if (!is_folder(argv[i])) {
+            fprintf(stderr, "stack: %s is no folder\n", argv[i]);
+            return 2;
+        }
         load(argv[i]);
-        now = taken();
-        if (now > most)
-            most = now;
+        judging = greater(judging, taken(judge));
+        other = greater(other, taken(others));
     }
     for (size_t i = 0; i < FILES; i++)
         free(held[i]);
-    if (argc > 1)
-        printf("stack of a judging: at most %zu bytes\n", most - least);
-    return most - (argc > 1 ? least : 0) > CANOPYRAIL_STACK;
+    judging -= least;
+    other -= least;
+    printf("stack: a judging takes at most %zu bytes, another call at most %zu\n", judging, other);
+    return judging > CANOPYRAIL_STACK || other >= OTHERS;
 }

@@ -15,7 +15,10 @@
  * pointer must be valid for its length and aligned as C aligns its type (bytes need none). No length may pass PTRDIFF_MAX bytes.
  *
  * STACK. canopyrail_judge takes up to CANOPYRAIL_STACK bytes of stack, whatever the files' sizes (docs/BENCHMARKS.md has the
- * measured figure); the other calls take less than 64 KiB. A thread that judges must have been made with as much.
+ * measured figure); the other calls take less than 64 KiB. A thread that judges must have been made with as much and what it uses
+ * itself, which is often not so where nothing is said: pthread_attr_setstacksize(&attr, CANOPYRAIL_STACK + 64 * 1024) before
+ * pthread_create, as examples/judge.c does. A stack that is too small is met at its guard page and ends the program; nothing is
+ * written past it.
  *
  * ANSWERS. A call that can refuse answers with one number. 0 says that nothing is wrong. Any other is a reason with its place, and the
  * calls canopyrail_reason, _file, _record, _field and _other take it apart. As a decimal number it has the digits of

@@ -1,8 +1,13 @@
 //! How long `judge` takes beside the independent checker, on the same deliveries in the same run, both built for release.
 //!
-//! `cargo run --release --example bench` prints the tables of docs/BENCHMARKS.md. Times are the least of several turns, taken by
-//! turns so that both meet the same state of the machine; a ratio below 1 says that the library is faster.
+//! `cargo run --release --example bench` prints the tables of docs/BENCHMARKS.md, `bench -- NAME...` those named: lawful, damaged,
+//! keys, places, records, thread. Times are the least of several turns, taken by turns so that both meet the same state of the
+//! machine; a ratio below 1 says that the library is faster.
 
+#[path = "../tests/places/mod.rs"]
+mod places;
+
+use canopyrail::Verdict;
 use deliveries::{damage, full, lawful, write, Files, Random, Size, AIMS};
 use std::time::Instant;
 
@@ -25,13 +30,17 @@ fn once<T>(work: impl FnOnce() -> T) -> f64 {
     start.elapsed().as_secs_f64() * 1000.0
 }
 
+/// The library's judging itself, without the thread that `canopyrail::judge` makes for it.
+fn judge(files: &Files) -> Verdict {
+    // SAFETY: all work here is done on the thread that main makes, with four times the stack that a judging takes.
+    unsafe { canopyrail::judge_here(lent(black_box(files))) }
+}
+
 /// The least of so many turns of both, by turns.
 fn both(files: &Files, turns: usize) -> (f64, f64) {
     let mut least = (f64::MAX, f64::MAX);
     for _ in 0..turns {
-        least.0 = least
-            .0
-            .min(once(|| canopyrail::judge(lent(black_box(files)))));
+        least.0 = least.0.min(once(|| judge(files)));
         least.1 = least
             .1
             .min(once(|| independent::judge(lent(black_box(files)))));
@@ -64,10 +73,13 @@ fn lawful_deliveries() {
     println!();
 }
 
-/// Every aim on a delivery of full size: how much longer than the lawful one does a damaged one take?
+/// Damaged deliveries are timed so many times each, as the lawful one beside them.
+const TURNS: usize = 9;
+
+/// Every aim on a delivery of n records a file: how much longer than the lawful one does a damaged one take?
 fn damaged_deliveries(n: usize) {
     let files = full(&mut Random::new(n as u64), n);
-    let (lawful_time, _) = both(&files, 5);
+    let (lawful_time, _) = both(&files, TURNS);
     println!(
         "judge, damaged deliveries of {n} records a file; the lawful one takes {lawful_time:.2} ms\n"
     );
@@ -77,14 +89,13 @@ fn damaged_deliveries(n: usize) {
         let mut model = lawful(&mut random, Size::Exact(n));
         let mut files = write(&model);
         damage(&mut random, &mut model, &mut files, *aim);
-        let (ours, theirs) = both(&files, 1);
-        let line = canopyrail::line(&canopyrail::judge(lent(&files)));
+        let (ours, theirs) = both(&files, TURNS);
         rows.push((
             ours / lawful_time,
             ours,
             theirs,
             aim.to_string(),
-            line.trim_end().to_string(),
+            judge(&files).to_string(),
         ));
     }
     rows.sort_by(|a, b| b.0.partial_cmp(&a.0).unwrap());
@@ -120,15 +131,48 @@ fn repeated_keys(n: usize) {
         let to = (n - 1) * length;
         let bytes = files[file][from..from + key].to_vec();
         files[file][to..to + key].copy_from_slice(&bytes);
-        let (ours, theirs) = both(&files, 3);
-        let line = canopyrail::line(&canopyrail::judge(lent(&files)));
+        let (ours, theirs) = both(&files, TURNS);
         println!(
             "| {} | `{}` | {ours:.2} | {theirs:.2} |",
             independent::NAMES[file],
+            judge(&files)
+        );
+    }
+    println!();
+}
+
+/// Nodes at different places that share one number, each with its point object, beside the same files with plain places: what is
+/// still quadratic.
+fn shared_places(n: usize) {
+    let together = places::falling_together(n, places::WHOLE);
+    let plain: Vec<(i64, i64)> = (1..=n as i64).map(|x| (x, x)).collect();
+    println!("judge, {n} nodes with their point objects, milliseconds\n");
+    println!("| places | line | canopyrail | independent |");
+    println!("|---|---|---|---|");
+    for (name, places, turns) in [
+        ("plain", plain, TURNS),
+        ("that share one number", together, 3),
+    ] {
+        let files = places::delivery(&places);
+        let line = independent::line(&independent::judge(lent(&files)));
+        let (ours, theirs) = both(&files, turns);
+        println!(
+            "| {name} | `{}` | {ours:.2} | {theirs:.2} |",
             line.trim_end()
         );
     }
     println!();
+}
+
+/// What the thread costs that `canopyrail::judge` makes, where the judging itself is short.
+fn thread() {
+    let files = full(&mut Random::new(8), 8);
+    let (mut own, mut here) = (f64::MAX, f64::MAX);
+    for _ in 0..1_000 {
+        own = own.min(once(|| canopyrail::judge(lent(black_box(&files)))));
+        here = here.min(once(|| judge(&files)));
+    }
+    println!("judge, 8 records a file: {own:.3} ms on a thread of its own, {here:.3} ms on the caller's\n");
 }
 
 /// One record read and written, nanoseconds.
@@ -180,13 +224,32 @@ fn one_record() {
     println!();
 }
 
-fn main() {
-    let work = || {
-        lawful_deliveries();
-        damaged_deliveries(4_096);
-        repeated_keys(16_384);
-        one_record();
+type Table = (&'static str, fn());
+
+const TABLES: [Table; 6] = [
+    ("lawful", lawful_deliveries),
+    ("damaged", || damaged_deliveries(4_096)),
+    ("keys", || repeated_keys(16_384)),
+    ("places", || shared_places(16_384)),
+    ("records", one_record),
+    ("thread", thread),
+];
+
+/// The tables named; all where none is.
+fn asked() -> Vec<Table> {
+    let words: Vec<String> = std::env::args().skip(1).collect();
+    if words.is_empty() {
+        return TABLES.to_vec();
+    }
+    let table = |word: &String| {
+        let found = TABLES.iter().find(|(name, _)| name == word);
+        *found.unwrap_or_else(|| panic!("no table {word}"))
     };
+    words.iter().map(table).collect()
+}
+
+fn main() {
+    let work = || asked().iter().for_each(|(_, print)| print());
     std::thread::Builder::new()
         .stack_size(4 * canopyrail::STACK)
         .spawn(work)

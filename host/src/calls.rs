@@ -1,9 +1,17 @@
-//! The C calls of canopyrail.h as safe functions. All unsafe code of the host is here.
+//! The C calls of canopyrail.h as safe functions. All unsafe code of the library's host side is
+//! here, but for one line of verdict.rs that hands a caller's promise on.
 //!
 //! What makes every block below sound: a Rust slice or array is valid for its length, aligned for
 //! its type and at most `isize::MAX` bytes long; its pointer is never null, not even at length 0; a
 //! call only borrows, keeps nothing, and writes nothing but memory that is passed here as `&mut`,
-//! which overlaps no other.
+//! which overlaps no other. Every call but the judging takes less than 64 KiB of stack
+//! (examples/stack.c measures it), and a stack with less left is met at its guard page
+//! (tests/guard.c), as with any function.
+
+use std::io;
+use std::thread;
+
+use crate::Reason;
 
 /// How many files a delivery has.
 pub const FILES: usize = 7;
@@ -11,6 +19,10 @@ pub const FILES: usize = 7;
 pub const FIELDS: usize = 14;
 /// The bytes of the longest text.
 pub const TEXT: usize = 60;
+/// The judging takes at most so many bytes of stack: `CANOPYRAIL_STACK` of the header.
+pub const STACK: usize = 4 * 1024 * 1024;
+/// What the judging thread's own start and end may take beside it.
+const BESIDE: usize = 256 * 1024;
 
 /// The values of one record, laid out as the calls take them: the value of field f at index f - 1.
 pub struct Lent {
@@ -39,12 +51,12 @@ struct Bytes {
     len: usize,
 }
 
-/// An answer taken apart. Reason 0 says that nothing is wrong.
-pub struct Parts {
-    pub reason: u64,
-    pub file: u64,
-    pub record: u64,
-    pub field: u64,
+/// What an answer tells, taken apart.
+pub struct Told {
+    pub reason: Reason,
+    pub file: usize,
+    pub record: usize,
+    pub field: usize,
     pub other: u64,
 }
 
@@ -85,26 +97,68 @@ pub fn version() -> u64 {
     unsafe { canopyrail_version() }
 }
 
-pub fn judge(files: &[&[u8]; FILES]) -> u64 {
+/// Judges on a thread of its own, whose stack is known to do: a safe function may not ask for more
+/// stack than its caller has. The error is the system's, where no thread can be made.
+pub fn judge(files: &[&[u8]; FILES]) -> io::Result<u64> {
+    // SAFETY: the thread below has STACK bytes for the judging.
+    let work = || unsafe { judge_here(files) };
+    thread::scope(|scope| {
+        let thread = thread::Builder::new()
+            .name("judging".to_string())
+            .stack_size(STACK + BESIDE)
+            .spawn_scoped(scope, work)?;
+        Ok(thread.join().expect("a judging does not unwind"))
+    })
+}
+
+/// Judges on this thread.
+///
+/// # Safety
+///
+/// The thread has STACK bytes of stack left.
+pub unsafe fn judge_here(files: &[&[u8]; FILES]) -> u64 {
     let lent = files.map(|file| Bytes {
         bytes: file.as_ptr(),
         len: file.len(),
     });
     // SAFETY: an array with its length, and in it slices, each with its own; the call only reads
-    // them.
+    // them. It has the stack that it takes.
     unsafe { canopyrail_judge(lent.as_ptr(), lent.len()) }
 }
 
-pub fn parts(answer: u64) -> Parts {
+/// What an answer tells; nothing where nothing is wrong.
+///
+/// # Panics
+///
+/// On a reason that this crate doesn't know, which only an archive of another version answers.
+pub fn told(answer: u64) -> Option<Told> {
+    if answer == 0 {
+        return None;
+    }
+    let [reason, file, record, field, other] = parts(answer);
+    // Each number has as many digits as the header names, so nothing is cut off.
+    let reason = Reason::of(reason as u8)
+        .unwrap_or_else(|| panic!("libcanopyrail.a is of another version: reason {reason}"));
+    Some(Told {
+        reason,
+        file: file as usize,
+        record: record as usize,
+        field: field as usize,
+        other,
+    })
+}
+
+/// Reason, file, record, field and what else the reason tells.
+fn parts(answer: u64) -> [u64; 5] {
     // SAFETY: five functions of a number; no memory is lent.
     unsafe {
-        Parts {
-            reason: canopyrail_reason(answer),
-            file: canopyrail_file(answer),
-            record: canopyrail_record(answer),
-            field: canopyrail_field(answer),
-            other: canopyrail_other(answer),
-        }
+        [
+            canopyrail_reason(answer),
+            canopyrail_file(answer),
+            canopyrail_record(answer),
+            canopyrail_field(answer),
+            canopyrail_other(answer),
+        ]
     }
 }
 

@@ -1,56 +1,46 @@
 //! A delivery in hand: the seven files of a directory, read into memory.
 
-use canopyrail::{names, Value, Verdict};
-use std::fs::{self, File};
-use std::io::{self, Read};
-use std::os::unix::ffi::OsStrExt;
-use std::os::unix::fs::FileTypeExt;
+use canopyrail::{names, Value, Verdict, FILES};
+use std::io::Read;
 use std::path::Path;
-use std::thread;
 
+use crate::failure::{Trouble, Unread};
+use crate::folder::{self, Doubt};
 use crate::layout::{limit, Part};
 use crate::picture;
 
-/// The judging thread's stack; the library asks for a quarter of it.
-const STACK: usize = 4 * canopyrail::STACK;
-
 /// The bytes of the seven files; no bytes of an absent one.
 pub struct Delivery {
-    files: [Option<Vec<u8>>; 7],
+    files: [Option<Vec<u8>>; FILES],
+    /// Why the folder may be another than was meant.
+    pub doubts: Vec<Doubt>,
 }
 
 impl Delivery {
-    /// Reads the seven files of a directory. The error says what could not be read.
-    pub fn open(directory: &Path) -> Result<Delivery, String> {
-        // Without this a mistyped name would be a delivery of no files, and accepted.
-        let kind = fs::metadata(directory).map_err(|error| trouble(directory, &error))?;
-        if !kind.is_dir() {
-            return Err(format!("{}: not a directory", path_words(directory)));
-        }
-        let mut files: [Option<Vec<u8>>; 7] = Default::default();
+    /// Reads the seven files of a folder.
+    pub fn open(directory: &Path) -> Result<Delivery, Trouble> {
+        folder::check(directory).map_err(|unread| Trouble::Unread(directory.into(), unread))?;
+        let mut files: [Option<Vec<u8>>; FILES] = Default::default();
         for (place, name) in names::FILES.iter().enumerate() {
             let path = directory.join(name);
-            files[place] = read_file(place + 1, &path).map_err(|error| trouble(&path, &error))?;
+            files[place] =
+                read_file(place + 1, &path).map_err(|unread| Trouble::Unread(path, unread))?;
         }
-        Ok(Delivery { files })
-    }
-
-    /// Judges the delivery, in a thread with stack enough.
-    pub fn judge(&self) -> Result<Verdict, String> {
-        thread::scope(|scope| {
-            let work = || canopyrail::judge(self.all());
-            let started = thread::Builder::new()
-                .stack_size(STACK)
-                .spawn_scoped(scope, work);
-            let thread = started.map_err(|error| format!("no thread to judge in: {error}"))?;
-            thread
-                .join()
-                .map_err(|_| "the judging thread broke off".to_string())
+        let absent: Vec<usize> = (1..=FILES)
+            .filter(|file| files[file - 1].is_none())
+            .collect();
+        Ok(Delivery {
+            files,
+            doubts: folder::doubts(directory, &absent),
         })
     }
 
-    fn all(&self) -> [&[u8]; 7] {
-        let mut all: [&[u8]; 7] = [&[]; 7];
+    pub fn judge(&self) -> Result<Verdict, Trouble> {
+        canopyrail::try_judge(self.all()).map_err(Trouble::NoThread)
+    }
+
+    fn all(&self) -> [&[u8]; FILES] {
+        let mut all: [&[u8]; FILES] = [&[]; FILES];
         for (place, bytes) in all.iter_mut().enumerate() {
             *bytes = self.bytes(place + 1);
         }
@@ -157,34 +147,15 @@ pub fn value_words(value: &Value) -> String {
 
 /// A file's bytes, nothing where there is no file of the name. One byte past the limit tells that a
 /// file is too long, so no more is read.
-fn read_file(file: usize, path: &Path) -> io::Result<Option<Vec<u8>>> {
-    let mut source = match open(path) {
-        Ok(source) => source,
-        Err(error) if error.kind() == io::ErrorKind::NotFound => return Ok(None),
-        Err(error) => return Err(error),
+fn read_file(file: usize, path: &Path) -> Result<Option<Vec<u8>>, Unread> {
+    let source = match folder::open_if_there(path)? {
+        Some(source) => source,
+        None => return Ok(None),
     };
     let mut bytes = Vec::new();
     source
-        .by_ref()
         .take(limit(file) as u64 + 1)
-        .read_to_end(&mut bytes)?;
+        .read_to_end(&mut bytes)
+        .map_err(Unread::System)?;
     Ok(Some(bytes))
-}
-
-/// Opens a file for reading. A pipe is no file of a delivery, and opening one could wait forever.
-fn open(path: &Path) -> io::Result<File> {
-    if fs::metadata(path)?.file_type().is_fifo() {
-        return Err(io::Error::new(io::ErrorKind::Other, "a pipe, not a file"));
-    }
-    File::open(path)
-}
-
-/// What could not be read, and why.
-pub fn trouble(path: &Path, error: &io::Error) -> String {
-    format!("{}: {error}", path_words(path))
-}
-
-/// A path in plain ASCII: it may hold any bytes.
-pub fn path_words(path: &Path) -> String {
-    picture::shown(path.as_os_str().as_bytes())
 }

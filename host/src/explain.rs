@@ -1,10 +1,11 @@
 //! A verdict in plain words, with the records that matter.
 
 pub mod bytes;
+mod likeness;
 mod lines;
 mod references;
 
-use canopyrail::{names, words, Break, Verdict};
+use canopyrail::{names, Break, Reason, Verdict, FILES};
 
 use crate::delivery::{Delivery, Values};
 use crate::layout::{key_parts, place_words, whole_place, x_part, y_part, Part};
@@ -54,7 +55,7 @@ impl Page {
     }
 }
 
-fn accepted(page: &mut Page, delivery: &Delivery, counts: &[usize; 7]) {
+fn accepted(page: &mut Page, delivery: &Delivery, counts: &[usize; FILES]) {
     page.tell("Accepted: no rule is broken.");
     page.text.push('\n');
     for (place, count) in counts.iter().enumerate() {
@@ -74,31 +75,40 @@ fn accepted(page: &mut Page, delivery: &Delivery, counts: &[usize; 7]) {
 fn refused(page: &mut Page, delivery: &Delivery, b: &Break) {
     page.say("Where", &place_words(b.file, b.record, b.field));
     page.record(delivery, b.file, b.record, &marks(delivery, b));
-    let found = words::of(b.reason);
-    page.say(
-        "Wrong",
-        found.map_or("A rule without words here is broken.", |words| words.wrong),
-    );
+    let words = b.reason.words();
+    page.say("Wrong", words.wrong);
     here(page, delivery, b);
-    if let Some(words) = found {
-        page.say("Rule", &format!("({}) {}", b.reason, words.rule));
-        page.say("Ask", words.ask);
-    }
+    let number = b.reason.number();
+    page.say("Rule", &format!("({number}) {}", words.rule));
+    page.say(
+        "Ask",
+        &format!("{}{}", ask_for_file(delivery, b), words.ask),
+    );
     page.tell("This is the first fault in the fixed order; there may be more behind it.");
+}
+
+/// What to ask first where a field names something of a file that is not there at all.
+fn ask_for_file(delivery: &Delivery, b: &Break) -> String {
+    match references::sought_file(b) {
+        Some(file) if delivery.is_absent(file) => {
+            format!("Where the file {} is. ", names::file(file))
+        }
+        _ => String::new(),
+    }
 }
 
 /// The bytes of the broken record that the rule is about.
 fn marks(delivery: &Delivery, b: &Break) -> Vec<Part> {
     match b.reason {
-        11 => vec![Part {
+        Reason::RaggedFile => vec![Part {
             start: 0,
             end: canopyrail::length(b.file),
         }],
-        30 => key_parts(b.file),
-        54 => vec![whole_place(b.file)],
-        55 => lines::point_marks(delivery, b),
-        56 => vec![x_part(b.file), y_part(b.file)],
-        57 => vec![Part::field(b.file, 1)],
+        Reason::SameKey => key_parts(b.file),
+        Reason::SamePlace => vec![whole_place(b.file)],
+        Reason::PointElsewhere => lines::point_marks(delivery, b),
+        Reason::IdleNode => vec![x_part(b.file), y_part(b.file)],
+        Reason::IdleObject => vec![Part::field(b.file, 1)],
         _ => bytes::field_marks(b.file, b.reason, b.field),
     }
 }
@@ -106,18 +116,18 @@ fn marks(delivery: &Delivery, b: &Break) -> Vec<Part> {
 /// What stands in this delivery.
 fn here(page: &mut Page, delivery: &Delivery, b: &Break) {
     match b.reason {
-        10 => bytes::too_long(page, b),
-        11 => bytes::ragged(page, delivery, b),
-        20 => bytes::bad_end(page, delivery, b),
-        30 => references::same_key(page, delivery, b),
-        40 => references::no_record(page, delivery, b),
-        41 => references::other_type(page, delivery, b),
-        50 | 51 => lines::orders(page, delivery, b),
-        52 | 53 => lines::line_end(page, delivery, b),
-        54 => lines::same_place(page, delivery, b),
-        55 => lines::point_elsewhere(page, delivery, b),
-        56 => lines::idle_node(page, delivery, b),
-        57 => lines::idle_object(page, delivery, b),
+        Reason::LongFile => bytes::too_long(page, b),
+        Reason::RaggedFile => bytes::ragged(page, delivery, b),
+        Reason::BadEnd => bytes::bad_end(page, delivery, b),
+        Reason::SameKey => references::same_key(page, delivery, b),
+        Reason::NoRecord => references::no_record(page, delivery, b),
+        Reason::OtherType => references::other_type(page, delivery, b),
+        Reason::OrderGap | Reason::OrderAlone => lines::orders(page, delivery, b),
+        Reason::StartElsewhere | Reason::EndElsewhere => lines::line_end(page, delivery, b),
+        Reason::SamePlace => lines::same_place(page, delivery, b),
+        Reason::PointElsewhere => lines::point_elsewhere(page, delivery, b),
+        Reason::IdleNode => lines::idle_node(page, delivery, b),
+        Reason::IdleObject => lines::idle_object(page, delivery, b),
         _ => {
             let text =
                 bytes::field_here(b.file, delivery.record(b.file, b.record), b.reason, b.field);
@@ -128,13 +138,13 @@ fn here(page: &mut Page, delivery: &Delivery, b: &Break) {
     }
 }
 
-/// A file's name with the number of its records.
+/// A file's name with the number of its records, or that it is not there.
 fn counted(delivery: &Delivery, file: usize) -> String {
-    format!(
-        "{} ({})",
-        names::file(file),
-        many(delivery.count(file), "record")
-    )
+    let name = names::file(file);
+    if delivery.is_absent(file) {
+        return format!("{name} (no such file)");
+    }
+    format!("{name} ({})", many(delivery.count(file), "record"))
 }
 
 /// The line that a tramo uses: its ID_LINEA, or its own id where that is blank.

@@ -2,8 +2,8 @@
 
 /// A few lines for someone who mistyped.
 pub const USAGE: &str = "\
-usage: canopyrail judge DIR
-       canopyrail explain DIR
+usage: canopyrail judge [--strict] DIR
+       canopyrail explain [--strict] DIR
        canopyrail show [--as NAME] FILE RECORD
        canopyrail help [judge | explain | show]
 ";
@@ -12,14 +12,15 @@ pub const GENERAL: &str = "\
 canopyrail: checks MIGRA v1 map deliveries (chain-node profile, seven files)
 
 usage:
-  canopyrail judge DIR                      judge a delivery and print one line
-  canopyrail explain DIR                    the same line, then what is wrong in plain words
+  canopyrail judge [--strict] DIR           judge a delivery and print one line
+  canopyrail explain [--strict] DIR         the same line, then what is wrong in plain words
   canopyrail show [--as NAME] FILE RECORD   one record's values, a field a line
   canopyrail help [COMMAND]                 this page, or a command's own
-  canopyrail --version                      the version
+  canopyrail --version, -V                  the version
 
 DIR has the delivery's files CATALOGO, OB_PUN, OB_TEX, OB_LIN, TRAMO, VERTICE and NODO, in capitals.
-A file that is absent counts as an empty one.
+A file that is absent counts as an empty one; where that looks like a mistake, a warning goes to
+standard error.
 
 exit status:
   0  accepted (show: the record is lawful)
@@ -41,7 +42,7 @@ example:
 ";
 
 pub const JUDGE: &str = "\
-usage: canopyrail judge DIR
+usage: canopyrail judge [--strict] DIR
 
 Judges the delivery in DIR and prints one line:
 
@@ -59,8 +60,11 @@ The first fault in a fixed order is told; there may be more behind it. `canopyra
 it in words.
 
 DIR has the seven files under these names, in capitals. An absent file counts as an empty one; one
-that is there and can't be read whole means that the delivery could not be judged. A file may have
-16,384 records.
+that is there and can't be read whole, or is a link to nothing, a folder or a pipe, means that the
+delivery could not be judged. A file may have 16,384 records.
+
+Where none of the files is there, or one is absent and another name looks like it (nodo, NODO.TXT),
+a warning goes to standard error. With --strict such a delivery is not judged, and the status is 2.
 
 exit status:
   0  accepted
@@ -68,11 +72,11 @@ exit status:
   2  could not judge: there is only a message on standard error
 
 example:
-  canopyrail judge north-ridge && load-into-base north-ridge
+  canopyrail judge --strict north-ridge && load-into-base north-ridge
 ";
 
 pub const EXPLAIN: &str = "\
-usage: canopyrail explain DIR
+usage: canopyrail explain [--strict] DIR
 
 Judges the delivery in DIR, prints the line that `canopyrail judge DIR` prints, and then says it in
 plain words:
@@ -86,6 +90,8 @@ plain words:
 Of an accepted delivery it gives the records of each file by name. Bytes that don't print, bytes of
 accented letters, and the backslash are shown as \\xNN, their number in base sixteen. A long record
 goes over several lines, each with the number of its first field and a colon before it.
+
+Warnings and --strict are those of `canopyrail judge`.
 
 exit status:
   0  accepted
@@ -109,11 +115,11 @@ FILE's name is one of CATALOGO, OB_PUN, OB_TEX, OB_LIN, TRAMO, VERTICE, NODO; wh
 exit status:
   0  the record is lawful
   1  it is not: reason and field are said, and the bytes marked
-  2  it can't be read: no such file, or no such record
+  2  it can't be read: no such file, no regular file, or no such record
 
 examples:
   canopyrail show north-ridge/NODO 2
-  canopyrail show --as NODO old/nodo.nod 2
+  canopyrail show --as=NODO old/nodo.nod 2
 ";
 
 /// The page of a command.

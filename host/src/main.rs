@@ -1,46 +1,50 @@
 //! The command `canopyrail`: judges a delivery, explains the verdict, shows a record.
-#![forbid(unsafe_code)]
+#![deny(unsafe_code)]
 
+mod arguments;
 mod delivery;
 mod explain;
+mod failure;
+mod folder;
 mod help;
 mod layout;
+#[allow(unsafe_code)]
+mod outlet;
 mod picture;
 mod show;
 
-use canopyrail::{names, Verdict};
+use canopyrail::Verdict;
 use std::env;
-use std::ffi::{OsStr, OsString};
+use std::ffi::OsString;
 use std::io::{self, Write};
-use std::os::unix::ffi::OsStrExt;
 use std::path::Path;
 use std::process::ExitCode;
 
+use arguments::{given, Takes};
 use delivery::Delivery;
+use failure::{path_words, Failure, Misuse, Trouble, Unwritten};
 
 const FINE: u8 = 0;
 const REFUSED: u8 = 1;
 const FAILED: u8 = 2;
 
-/// What a command has to say on standard output, and its exit status.
+const VERSION: &str = concat!("canopyrail ", env!("CARGO_PKG_VERSION"), "\n");
+
+/// What a command has to say on standard output and besides on standard error, and its exit status.
 struct Outcome {
     page: String,
+    warnings: Vec<String>,
     status: u8,
-}
-
-/// What a command that could not do its work says on standard error; its exit status is 2.
-struct Failure {
-    page: String,
 }
 
 type Ending = Result<Outcome, Failure>;
 
 fn main() -> ExitCode {
     let words: Vec<OsString> = env::args_os().skip(1).collect();
-    let status = match run(&words) {
-        Ok(outcome) => print(&outcome),
+    let status = match run(&words).and_then(print) {
+        Ok(status) => status,
         Err(failure) => {
-            complain(&failure.page);
+            complain(&failure);
             FAILED
         }
     };
@@ -48,65 +52,58 @@ fn main() -> ExitCode {
 }
 
 fn run(words: &[OsString]) -> Ending {
-    let (command, rest) = match words.split_first() {
-        Some(split) => split,
-        None => return Err(usage("a command is missing")),
-    };
+    let (command, rest) = words.split_first().ok_or(Misuse::NoCommand)?;
     match command.to_str() {
-        Some("judge") => judge(rest),
-        Some("explain") => explain(rest),
+        Some("judge") => judge(rest, help::JUDGE, |_, verdict| canopyrail::line(verdict)),
+        Some("explain") => judge(rest, help::EXPLAIN, explain::page),
         Some("show") => show(rest),
         Some("help") => help(rest),
-        Some("--help") | Some("-h") => Ok(fine(help::GENERAL)),
-        Some("--version") => Ok(fine(concat!(
-            "canopyrail ",
-            env!("CARGO_PKG_VERSION"),
-            "\n"
-        ))),
-        _ => Err(usage(&format!("unknown word {}", quoted(command)))),
+        Some("--help" | "-h") => Ok(fine(help::GENERAL)),
+        Some("--version" | "-V") => Ok(fine(VERSION)),
+        _ => Err(Misuse::UnknownWord(command.clone()).into()),
     }
 }
 
-fn judge(rest: &[OsString]) -> Ending {
-    match directory(rest)? {
-        Some(directory) => {
-            let (_, verdict) = judged(directory)?;
-            Ok(Outcome {
-                page: canopyrail::line(&verdict),
-                status: status(&verdict),
-            })
-        }
-        None => Ok(fine(help::JUDGE)),
+/// Judges a folder and says the verdict in the words that the command has for it.
+fn judge(rest: &[OsString], help: &str, words: fn(&Delivery, &Verdict) -> String) -> Ending {
+    let given = given(rest, Takes::Strict)?;
+    if given.help {
+        return Ok(fine(help));
     }
+    let directory = given.directory()?;
+    let delivery = opened(directory, given.strict).map_err(Failure::Judging)?;
+    let verdict = delivery.judge().map_err(Failure::Judging)?;
+    Ok(Outcome {
+        page: words(&delivery, &verdict),
+        warnings: warnings(directory, &delivery),
+        status: status(&verdict),
+    })
 }
 
-fn explain(rest: &[OsString]) -> Ending {
-    match directory(rest)? {
-        Some(directory) => {
-            let (delivery, verdict) = judged(directory)?;
-            Ok(Outcome {
-                page: explain::page(&delivery, &verdict),
-                status: status(&verdict),
-            })
-        }
-        None => Ok(fine(help::EXPLAIN)),
+fn opened(directory: &Path, strict: bool) -> Result<Delivery, Trouble> {
+    let delivery = Delivery::open(directory)?;
+    if strict && !delivery.doubts.is_empty() {
+        return Err(Trouble::Doubtful(directory.into(), delivery.doubts));
     }
+    Ok(delivery)
+}
+
+fn warnings(directory: &Path, delivery: &Delivery) -> Vec<String> {
+    let path = path_words(directory);
+    let doubts = delivery.doubts.iter();
+    doubts.map(|doubt| format!("{path}: {doubt}")).collect()
 }
 
 fn show(rest: &[OsString]) -> Ending {
-    let given = given(rest, true)?;
+    let given = given(rest, Takes::Name)?;
     if given.help {
         return Ok(fine(help::SHOW));
     }
-    let (path, record) = match given.words.as_slice() {
-        [path, record] => (Path::new(*path), record_number(record)?),
-        _ => return Err(usage("show takes a file and a record number")),
-    };
-    let file = file_number(path, given.name)?;
-    let (page, lawful) =
-        show::page(file, path, record).map_err(|what| failure("could not show", &what))?;
+    let (path, file, record) = given.file_and_record()?;
+    let (page, lawful) = show::page(file, path, record).map_err(Failure::Showing)?;
     Ok(Outcome {
         page,
+        warnings: Vec::new(),
         status: if lawful { FINE } else { REFUSED },
     })
 }
@@ -116,80 +113,10 @@ fn help(rest: &[OsString]) -> Ending {
         [] => Ok(fine(help::GENERAL)),
         [command] => match command.to_str().and_then(help::page) {
             Some(page) => Ok(fine(page)),
-            None => Err(usage(&format!("no help on {}", quoted(command)))),
+            None => Err(Misuse::UnknownHelp(command.clone()).into()),
         },
-        _ => Err(usage("help takes one command at most")),
+        _ => Err(Misuse::SeveralHelps.into()),
     }
-}
-
-/// The directory that a command is given; nothing where its help is asked for.
-fn directory(rest: &[OsString]) -> Result<Option<&Path>, Failure> {
-    let given = given(rest, false)?;
-    match given.words.as_slice() {
-        _ if given.help => Ok(None),
-        [directory] => Ok(Some(Path::new(*directory))),
-        [] => Err(usage("a directory is missing")),
-        _ => Err(usage("only one directory can be judged at a time")),
-    }
-}
-
-/// The words after a command, taken apart.
-struct Given<'a> {
-    words: Vec<&'a OsStr>,
-    name: Option<&'a OsStr>,
-    help: bool,
-}
-
-/// Takes options out of the words; after `--` every word is a plain one.
-fn given(rest: &[OsString], takes_name: bool) -> Result<Given<'_>, Failure> {
-    let mut given = Given {
-        words: Vec::new(),
-        name: None,
-        help: false,
-    };
-    let mut each = rest.iter().map(OsString::as_os_str);
-    while let Some(word) = each.next() {
-        match word.to_str() {
-            Some("--help") | Some("-h") => given.help = true,
-            Some("--as") if takes_name => match each.next() {
-                Some(name) => given.name = Some(name),
-                None => return Err(usage("--as takes a name")),
-            },
-            Some("--") => given.words.extend(each.by_ref()),
-            _ if word.as_bytes().starts_with(b"-") => {
-                return Err(usage(&format!("unknown option {}", quoted(word))))
-            }
-            _ => given.words.push(word),
-        }
-    }
-    Ok(given)
-}
-
-fn record_number(word: &OsStr) -> Result<u64, Failure> {
-    let number = word.to_str().and_then(|text| text.parse().ok());
-    number.ok_or_else(|| usage(&format!("{} is no record number", quoted(word))))
-}
-
-/// Which of the seven files a path is, by the name given or by its own.
-fn file_number(path: &Path, name: Option<&OsStr>) -> Result<usize, Failure> {
-    let name = name
-        .or_else(|| path.file_name())
-        .unwrap_or(path.as_os_str());
-    let number = name.to_str().and_then(names::number_of);
-    number.ok_or_else(|| {
-        let files = names::FILES.join(", ");
-        usage(&format!(
-            "{} is none of {files}; --as NAME says which it is",
-            quoted(name)
-        ))
-    })
-}
-
-fn judged(directory: &Path) -> Result<(Delivery, Verdict), Failure> {
-    let could_not = |what: String| failure("could not judge", &what);
-    let delivery = Delivery::open(directory).map_err(could_not)?;
-    let verdict = delivery.judge().map_err(could_not)?;
-    Ok((delivery, verdict))
 }
 
 fn status(verdict: &Verdict) -> u8 {
@@ -202,43 +129,41 @@ fn status(verdict: &Verdict) -> u8 {
 fn fine(page: &str) -> Outcome {
     Outcome {
         page: page.to_string(),
+        warnings: Vec::new(),
         status: FINE,
     }
 }
 
-fn failure(what: &str, why: &str) -> Failure {
-    Failure {
-        page: format!("canopyrail: {what}: {why}\n"),
+/// Prints warnings and a page and answers the exit status. A reader that went away has seen what it
+/// wanted, so the status stands; any other trouble means that the page isn't out.
+fn print(outcome: Outcome) -> Result<u8, Failure> {
+    for warning in &outcome.warnings {
+        tell(&format!("canopyrail: warning: {warning}\n"));
     }
-}
-
-fn usage(what: &str) -> Failure {
-    Failure {
-        page: format!("canopyrail: {what}\n{}", help::USAGE),
+    if outlet::was_closed() {
+        return Err(Failure::Writing(Unwritten::Closed));
     }
-}
-
-fn quoted(word: &OsStr) -> String {
-    format!("'{}'", picture::shown(word.as_bytes()))
-}
-
-/// Prints a page and answers the exit status. A reader that went away has seen what it wanted, so
-/// the status stands; any other trouble means that the page isn't out.
-fn print(outcome: &Outcome) -> u8 {
     let mut output = io::stdout();
     match output
         .write_all(outcome.page.as_bytes())
         .and_then(|()| output.flush())
     {
         Err(error) if error.kind() != io::ErrorKind::BrokenPipe => {
-            complain(&format!("canopyrail: could not write: {error}\n"));
-            FAILED
+            Err(Failure::Writing(Unwritten::System(error)))
         }
-        _ => outcome.status,
+        _ => Ok(outcome.status),
     }
 }
 
+fn complain(failure: &Failure) {
+    let usage = match failure {
+        Failure::Usage(_) => help::USAGE,
+        _ => "",
+    };
+    tell(&format!("canopyrail: {failure}\n{usage}"));
+}
+
 /// Writes to standard error; where that is closed there is nobody left to tell.
-fn complain(page: &str) {
+fn tell(page: &str) {
     let _ = io::stderr().write_all(page.as_bytes());
 }

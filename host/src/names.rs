@@ -153,6 +153,7 @@ fn at(file: usize, field: usize) -> Option<&'static Field> {
 }
 
 /// A file's name; empty where there is no file of the number.
+#[must_use]
 pub fn file(file: usize) -> &'static str {
     file.checked_sub(1)
         .and_then(|place| FILES.get(place))
@@ -161,6 +162,7 @@ pub fn file(file: usize) -> &'static str {
 }
 
 /// The number of the file with this name.
+#[must_use]
 pub fn number_of(name: &str) -> Option<usize> {
     FILES
         .iter()
@@ -169,16 +171,19 @@ pub fn number_of(name: &str) -> Option<usize> {
 }
 
 /// MIGRA's short name of a field; empty where there is no such field.
+#[must_use]
 pub fn field(file: usize, field: usize) -> &'static str {
     at(file, field).map_or("", |found| found.name)
 }
 
 /// What a field says, in a few words; empty where there is no such field.
+#[must_use]
 pub fn meaning(file: usize, field: usize) -> &'static str {
     at(file, field).map_or("", |found| found.meaning)
 }
 
 /// The form of a field, if there is such a field.
+#[must_use]
 pub fn form(file: usize, field: usize) -> Option<Form> {
     let forms = [Form::Text, Form::Sign, Form::Number, Form::Coordinate];
     let number = calls::form(file, field);

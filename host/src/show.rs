@@ -1,22 +1,29 @@
 //! One record's values, a field a line.
 
 use canopyrail::names::{self, Form};
-use canopyrail::{words, Refusal, Value};
-use std::fs::File;
+use canopyrail::{Refusal, Value};
 use std::io::{self, Read};
 use std::path::Path;
 
-use crate::delivery::{trouble, value_words};
+use crate::delivery::value_words;
 use crate::explain::bytes::{field_here, field_marks};
+use crate::failure::{Trouble, Unread};
+use crate::folder;
 use crate::layout::{place_words, Part};
-use crate::picture::{self, many, shown};
+use crate::picture::{self, shown};
 
-/// A record's page, and whether the record is lawful. The error says why there is no record to
-/// show.
-pub fn page(file: usize, path: &Path, record: u64) -> Result<(String, bool), String> {
-    let bytes = match fetch(file, path, record).map_err(|error| trouble(path, &error))? {
+/// A record's page, and whether the record is lawful.
+pub fn page(file: usize, path: &Path, record: u64) -> Result<(String, bool), Trouble> {
+    let unread = |unread| Trouble::Unread(path.into(), unread);
+    let bytes = match fetch(file, path, record).map_err(unread)? {
         Fetched::Record(bytes) => bytes,
-        Fetched::Short(whole) => return Err(no_such(file, record, whole)),
+        Fetched::Short(whole) => {
+            return Err(Trouble::NoRecord {
+                file,
+                record,
+                whole,
+            })
+        }
     };
     match canopyrail::read(file, &bytes, 1) {
         Ok(values) => Ok((lawful(file, &bytes, &values), true)),
@@ -30,10 +37,15 @@ enum Fetched {
     Short(u64),
 }
 
-/// One record's bytes, from a file of any size: what comes before it is passed over and not kept.
-fn fetch(file: usize, path: &Path, record: u64) -> io::Result<Fetched> {
+/// One record's bytes, from a file of any size.
+fn fetch(file: usize, path: &Path, record: u64) -> Result<Fetched, Unread> {
+    let source = folder::open(path)?;
+    pick(file, source, record).map_err(Unread::System)
+}
+
+/// What comes before the record is passed over and not kept.
+fn pick(file: usize, mut source: impl Read, record: u64) -> io::Result<Fetched> {
     let length = canopyrail::length(file) as u64;
-    let mut source = File::open(path)?;
     let before = record.saturating_sub(1).saturating_mul(length);
     let passed = io::copy(&mut source.by_ref().take(before), &mut io::sink())?;
     let mut bytes = Vec::new();
@@ -42,17 +54,6 @@ fn fetch(file: usize, path: &Path, record: u64) -> io::Result<Fetched> {
         return Ok(Fetched::Short((passed + bytes.len() as u64) / length));
     }
     Ok(Fetched::Record(bytes))
-}
-
-fn no_such(file: usize, record: u64, whole: u64) -> String {
-    let name = names::file(file);
-    if record == 0 {
-        return "records are counted from 1".to_string();
-    }
-    format!(
-        "there is no record {record}: {name} has {}",
-        many(whole as usize, "whole record")
-    )
 }
 
 fn lawful(file: usize, bytes: &[u8], values: &[Value]) -> String {
@@ -86,12 +87,8 @@ fn unlawful(file: usize, bytes: &[u8], record: u64, refusal: Refusal) -> String 
         bytes,
         &field_marks(file, reason, field),
     ));
-    if let Some(words) = words::of(reason) {
-        text.push_str(&picture::paragraph(
-            "Wrong",
-            &format!("({reason}) {}", words.wrong),
-        ));
-    }
+    let (number, wrong) = (reason.number(), reason.words().wrong);
+    text.push_str(&picture::paragraph("Wrong", &format!("({number}) {wrong}")));
     let here = field_here(file, bytes, reason, field);
     if !here.is_empty() {
         text.push_str(&picture::paragraph("Here", &here));

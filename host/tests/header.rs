@@ -1,6 +1,7 @@
 //! include/canopyrail.h, the archive and this crate say the same: the version and every number that the header defines.
 
 use canopyrail::names::{form, Form, FILES};
+use canopyrail::Reason;
 
 const HEADER: &str = include_str!("../../include/canopyrail.h");
 
@@ -70,4 +71,44 @@ fn the_same_files_and_forms() {
     ] {
         assert_eq!(number(&format!("CANOPYRAIL_FORM_{name}")), form as usize);
     }
+}
+
+/// A name as the header has it: LONG_FILE of LongFile.
+fn capitals(name: &str) -> String {
+    let mut capitals = String::new();
+    for letter in name.chars() {
+        if letter.is_uppercase() && !capitals.is_empty() {
+            capitals.push('_');
+        }
+        capitals.extend(letter.to_uppercase());
+    }
+    capitals
+}
+
+#[test]
+fn the_same_reasons() {
+    for reason in Reason::ALL {
+        let name = format!("CANOPYRAIL_{}", capitals(&format!("{reason:?}")));
+        assert_eq!(number(&name), usize::from(reason.number()), "{name}");
+    }
+    let listed = HEADER
+        .split("enum canopyrail_reason_number {")
+        .nth(1)
+        .and_then(|rest| rest.split("};").next())
+        .unwrap();
+    // One more there: 0, that nothing is wrong.
+    assert_eq!(listed.matches(" = ").count(), Reason::ALL.len() + 1);
+}
+
+#[test]
+fn the_same_stack() {
+    let line = HEADER
+        .lines()
+        .find_map(|line| line.strip_prefix("#define CANOPYRAIL_STACK "))
+        .unwrap();
+    let factors = line.trim_matches(|each| "()".contains(each)).split(" * ");
+    let product: usize = factors
+        .map(|factor| factor.trim_end_matches('u').parse::<usize>().unwrap())
+        .product();
+    assert_eq!(product, canopyrail::STACK);
 }

@@ -32,7 +32,7 @@ fn read(file: usize, bytes: &[u8], record: usize) -> Option<Vec<canopyrail::Valu
         }
         (Err(a), Err(b)) => {
             assert_eq!(
-                (a.reason, a.field),
+                (a.reason.number(), a.field),
                 (b.reason, b.field),
                 "file {file}, record {record}"
             );
@@ -58,7 +58,7 @@ fn write(file: usize, values: &[canopyrail::Value], room: usize) -> Option<Vec<u
         }
         (Err(a), Err(b)) => {
             assert_eq!(
-                (a.reason, a.field),
+                (a.reason.number(), a.field),
                 (b.reason, b.field),
                 "file {file}: {values:?}"
             );
@@ -141,7 +141,7 @@ fn records_are_read_and_written_alike() {
                     Some(values) => values,
                     None => {
                         let refusal = canopyrail::read(file, bytes, record).unwrap_err();
-                        told[usize::from(refusal.reason)] += 1;
+                        told[usize::from(refusal.reason.number())] += 1;
                         continue;
                     }
                 };
@@ -175,7 +175,7 @@ fn records_are_read_and_written_alike() {
                     None => {
                         let mut room = [0u8; ROOM];
                         let refusal = canopyrail::write(file, &other, &mut room).unwrap_err();
-                        told[usize::from(refusal.reason)] += 1;
+                        told[usize::from(refusal.reason.number())] += 1;
                     }
                 }
             }
@@ -235,7 +235,7 @@ fn values_of_another_form_are_refused() {
             .collect();
         values[field - 1] = value;
         let refusal = canopyrail::write(file, &values, &mut room).unwrap_err();
-        assert_eq!((refusal.reason, refusal.field), (reason, field));
+        assert_eq!((refusal.reason.number(), refusal.field), (reason, field));
         assert!(room.iter().all(|byte| *byte == 0xEE));
     }
 }

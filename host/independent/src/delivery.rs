@@ -3,7 +3,7 @@
 
 use crate::layout::LENGTHS;
 use crate::record::{parse, Cells, Code};
-use crate::verdict::Break;
+use crate::verdict::{broken, Break};
 
 pub(crate) struct Entry {
     pub code: Code,
@@ -85,12 +85,8 @@ fn records<T>(file: usize, bytes: &[u8], make: impl Fn(&Cells) -> T) -> Result<V
     let chunks = bytes.chunks_exact(LENGTHS[file - 1]);
     let mut made = Vec::with_capacity(chunks.len());
     for (i, record) in chunks.enumerate() {
-        let cells = parse(file, record).map_err(|refusal| Break {
-            reason: refusal.reason,
-            file,
-            record: i + 1,
-            field: refusal.field,
-        })?;
+        let cells = parse(file, record)
+            .map_err(|refusal| broken(refusal.reason, (file, i, refusal.field), 0))?;
         made.push(make(&cells));
     }
     Ok(made)

@@ -5,7 +5,7 @@ use std::hash::Hash;
 
 use crate::delivery::Delivery;
 use crate::record::Code;
-use crate::verdict::Break;
+use crate::verdict::{broken, told, Break};
 
 /// Places of records in their files, counted from 0, by key.
 pub(crate) struct Keys {
@@ -42,13 +42,9 @@ fn by_key<K: Eq + Hash>(
 ) -> Result<HashMap<K, usize>, Break> {
     let mut places = HashMap::with_capacity(keys.len());
     for (i, key) in keys.enumerate() {
-        if places.insert(key, i).is_some() {
-            return Err(Break {
-                reason: 30,
-                file,
-                record: i + 1,
-                field,
-            });
+        // The first that comes again has come once before, so this is the one.
+        if let Some(earlier) = places.insert(key, i) {
+            return Err(broken(30, (file, i, field), told(earlier)));
         }
     }
     Ok(places)

@@ -6,7 +6,7 @@ use crate::delivery::{Delivery, Tramo};
 use crate::keys::Keys;
 use crate::record::Code;
 use crate::topology::Lines;
-use crate::verdict::{ensure, Break};
+use crate::verdict::{broken, ensure, Break, Place};
 
 /// Reads every reference in the order of file, record and field, so that the
 /// first break met is the first there is.
@@ -56,10 +56,15 @@ fn check_code(
     keys: &Keys,
     code: &Code,
     tipo: u8,
-    place: (usize, usize, usize),
+    place: Place,
 ) -> Result<(), Break> {
-    match keys.codes.get(code) {
-        None => ensure(false, 40, place),
-        Some(&entry) => ensure(delivery.entries[entry].tipo == tipo, 41, place),
+    let entry = match keys.codes.get(code) {
+        None => return Err(broken(40, place, 0)),
+        Some(&entry) => &delivery.entries[entry],
+    };
+    if entry.tipo == tipo {
+        Ok(())
+    } else {
+        Err(broken(41, place, u64::from(entry.tipo)))
     }
 }

@@ -4,7 +4,7 @@ use std::collections::{HashMap, HashSet};
 
 use crate::delivery::{Delivery, Node, Vertex};
 use crate::keys::Keys;
-use crate::verdict::{ensure, Break};
+use crate::verdict::{broken, ensure, told, Break};
 
 /// The vertex of highest order of each line that has a vertex, by its place
 /// in the file counted from 0.
@@ -91,9 +91,11 @@ fn check_nodes(delivery: &Delivery) -> Result<(), Break> {
     let named = delivery.points.iter().filter_map(|p| p.node);
     let wanted: HashSet<u64> = ends.chain(named).collect();
     let vertices: HashSet<(i64, i64)> = delivery.vertices.iter().map(|v| (v.x, v.y)).collect();
-    let mut taken = HashSet::with_capacity(delivery.nodes.len());
+    let mut taken = HashMap::with_capacity(delivery.nodes.len());
     for (i, node) in delivery.nodes.iter().enumerate() {
-        ensure(taken.insert((node.x, node.y, node.z)), 54, (7, i, 0))?;
+        if let Some(earlier) = taken.insert((node.x, node.y, node.z), i) {
+            return Err(broken(54, (7, i, 0), told(earlier)));
+        }
         let has_use = wanted.contains(&node.id) || vertices.contains(&(node.x, node.y));
         ensure(has_use, 56, (7, i, 0))?;
     }
@@ -141,6 +143,7 @@ mod tests {
             file: 5,
             record: 1,
             field: 4,
+            other: 0,
         };
         assert_eq!(found, Err(expected));
     }

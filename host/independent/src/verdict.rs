@@ -19,6 +19,9 @@ pub struct Break {
     pub record: usize,
     /// The field, 0 for the whole record.
     pub field: usize,
+    /// What else there is to tell: of 30 and 54 the earlier record, of 41 the
+    /// letter that the code is catalogued under, as a byte; else 0.
+    pub other: u64,
 }
 
 /// What is said of a delivery.
@@ -73,28 +76,38 @@ fn check_lengths(files: [&[u8]; 7]) -> Result<(), Break> {
             file: i + 1,
             record,
             field: 0,
+            other: 0,
         });
     }
     Ok(())
 }
 
-/// A break unless the rule holds. The place is file, record and field, the
-/// record counted from 0 as the loops count it.
-pub(crate) fn ensure(
-    holds: bool,
-    reason: u8,
-    (file, i, field): (usize, usize, usize),
-) -> Result<(), Break> {
+/// File, record and field, the record counted from 0 as the loops count it.
+pub(crate) type Place = (usize, usize, usize);
+
+/// A break unless the rule holds.
+pub(crate) fn ensure(holds: bool, reason: u8, place: Place) -> Result<(), Break> {
     if holds {
         Ok(())
     } else {
-        Err(Break {
-            reason,
-            file,
-            record: i + 1,
-            field,
-        })
+        Err(broken(reason, place, 0))
     }
+}
+
+/// A break at a place, with what else there is to tell.
+pub(crate) fn broken(reason: u8, (file, i, field): Place, other: u64) -> Break {
+    Break {
+        reason,
+        file,
+        record: i + 1,
+        field,
+        other,
+    }
+}
+
+/// A record as it is told, counted from 1.
+pub(crate) fn told(i: usize) -> u64 {
+    i as u64 + 1
 }
 
 /// The program's line for a verdict, with its line feed.

@@ -1,9 +1,9 @@
 //! What is told of one file's bytes: its shape (10, 11) and its records' fields (20 to 25).
 
 use canopyrail::names::{self, Form};
-use canopyrail::Break;
+use canopyrail::{Break, Reason};
 
-use super::Page;
+use super::{likeness, Page};
 use crate::delivery::Delivery;
 use crate::layout::{end_part, field_words, limit, x_field, Part, CATALOGO, OB_LIN, TRAMO};
 use crate::picture::{byte_words, grouped, many, shown};
@@ -33,6 +33,7 @@ pub fn ragged(page: &mut Page, delivery: &Delivery, b: &Break) {
     page.say("Here", &text);
     page.more(&tail_words(delivery.record(b.file, b.record)));
     page.more(&step_words(bytes, length));
+    page.more(&likeness::words(bytes));
 }
 
 /// What a file's odd bytes look like, where that is known.
@@ -69,6 +70,7 @@ pub fn bad_end(page: &mut Page, delivery: &Delivery, b: &Break) {
     let start = (b.record - 1) * length;
     let rest = delivery.bytes(b.file).get(start..).unwrap_or(&[]);
     page.more(&own_step_words(rest, length));
+    page.more(&likeness::words(delivery.bytes(b.file)));
 }
 
 fn own_step_words(rest: &[u8], length: usize) -> String {
@@ -97,11 +99,11 @@ fn end_words(file: usize, record: &[u8]) -> String {
 }
 
 /// What a reason that reads one record marks in it.
-pub fn field_marks(file: usize, reason: u8, field: usize) -> Vec<Part> {
+pub fn field_marks(file: usize, reason: Reason, field: usize) -> Vec<Part> {
     let place = Part::field(file, field);
     match reason {
-        20 => vec![end_part(file)],
-        21 => vec![Part {
+        Reason::BadEnd => vec![end_part(file)],
+        Reason::NoBar => vec![Part {
             start: place.end,
             end: place.end + 1,
         }],
@@ -110,19 +112,19 @@ pub fn field_marks(file: usize, reason: u8, field: usize) -> Vec<Part> {
 }
 
 /// What a reason of 20 to 25 finds in a record; nothing of other reasons.
-pub fn field_here(file: usize, record: &[u8], reason: u8, field: usize) -> String {
+pub fn field_here(file: usize, record: &[u8], reason: Reason, field: usize) -> String {
     let place = Part::field(file, field);
     let bytes = place.of(record);
     match reason {
-        20 => end_words(file, record),
-        21 => match record.get(place.end) {
+        Reason::BadEnd => end_words(file, record),
+        Reason::NoBar => match record.get(place.end) {
             Some(byte) => format!("After the field stands {}.", byte_words(*byte)),
             None => String::new(),
         },
-        22 => not_number(bytes),
-        23 => not_text(bytes),
-        24 => missing(file, record, field),
-        25 => outside(file, record, field),
+        Reason::NotNumber => not_number(bytes),
+        Reason::NotText => not_text(bytes),
+        Reason::Missing => missing(file, record, field),
+        Reason::Outside => outside(file, record, field),
         _ => String::new(),
     }
 }

@@ -1,6 +1,6 @@
 //! What is told of lines, nodes and objects (50 to 57).
 
-use canopyrail::Break;
+use canopyrail::{Break, Reason};
 
 use super::{counted, line_of, line_words, Page};
 use crate::delivery::{Delivery, Values};
@@ -21,7 +21,7 @@ pub fn orders(page: &mut Page, delivery: &Delivery, b: &Break) {
         .collect();
     there.sort_unstable();
     let asked = match (b.reason, order) {
-        (51, _) => "Order 2 is not there.".to_string(),
+        (Reason::OrderAlone, _) => "Order 2 is not there.".to_string(),
         (_, 0) => "Orders begin with 1.".to_string(),
         _ => format!("Order {} is not there.", order - 1),
     };
@@ -99,7 +99,7 @@ pub fn line_end(page: &mut Page, delivery: &Delivery, b: &Break) {
         .iter()
         .find(|(_, vertex)| vertex.number(2) == Some(1));
     let last = vertices.iter().max_by_key(|(_, vertex)| vertex.number(2));
-    let (end, other) = if b.reason == 52 {
+    let (end, other) = if b.reason == Reason::StartElsewhere {
         (first, last)
     } else {
         (last, first)
@@ -122,7 +122,7 @@ fn show_end(
     end: &(usize, Values),
     named: &(usize, Values),
 ) {
-    let (which, node_name) = if b.reason == 52 {
+    let (which, node_name) = if b.reason == Reason::StartElsewhere {
         ("first", "start")
     } else {
         ("last", "end")
@@ -153,8 +153,8 @@ fn show_end(
 
 /// Said where the line's other end is at the node. MIGRA's section 5.6.9 turns the ends round under
 /// SENTIDO -, and the rule does not, so a converter that follows it lands here.
-fn turned_words(reason: u8) -> &'static str {
-    if reason == 52 {
+fn turned_words(reason: Reason) -> &'static str {
+    if reason == Reason::StartElsewhere {
         "The line's last vertex is at that node: the tramo may run against its line. The start \
          node belongs to order 1 also where SENTIDO is -."
     } else {

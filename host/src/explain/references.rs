@@ -1,6 +1,6 @@
 //! What is told of keys and references (30, 40, 41).
 
-use canopyrail::{names, Break};
+use canopyrail::{names, Break, Reason};
 
 use super::{counted, line_words, Page};
 use crate::delivery::Delivery;
@@ -51,20 +51,24 @@ fn sought(file: usize, field: usize) -> Sought {
     }
 }
 
+/// The file that a reference without a record is sought in; nothing of other reasons.
+pub fn sought_file(b: &Break) -> Option<usize> {
+    if b.reason != Reason::NoRecord {
+        return None;
+    }
+    match sought(b.file, b.field) {
+        Sought::In(file) => Some(file),
+        Sought::Line => Some(VERTICE),
+        Sought::User => Some(TRAMO),
+        Sought::Nowhere => None,
+    }
+}
+
 pub fn no_record(page: &mut Page, delivery: &Delivery, b: &Break) {
     let said = shown(delivery.field(b.file, b.record, b.field));
     let said = said.trim_end();
     match sought(b.file, b.field) {
-        Sought::In(file) => {
-            let key = names::field(file, 1);
-            page.say(
-                "Here",
-                &format!(
-                    "{said} is sought in {}, field 1 {key}, and is not there.",
-                    counted(delivery, file)
-                ),
-            );
-        }
+        Sought::In(file) => page.say("Here", &not_there(delivery, said, file)),
         Sought::Nowhere => {
             let text = "there is no file in which it could be sought. It must be blank.";
             page.say("Here", &format!("The field says {said}; {text}"));
@@ -74,13 +78,25 @@ pub fn no_record(page: &mut Page, delivery: &Delivery, b: &Break) {
     }
 }
 
+/// That something is not in the file that it is sought in, by its field 1, or that the file is not
+/// there at all.
+fn not_there(delivery: &Delivery, what: &str, file: usize) -> String {
+    if delivery.is_absent(file) {
+        return absent(what, file);
+    }
+    let (place, key) = (counted(delivery, file), names::field(file, 1));
+    format!("{what} is sought in {place}, field 1 {key}, and is not there.")
+}
+
+fn absent(what: &str, file: usize) -> String {
+    let name = names::file(file);
+    format!("{what} is sought in {name}, and the delivery has no file {name}.")
+}
+
 fn no_line(page: &mut Page, delivery: &Delivery, b: &Break) {
     if let Some(tramo) = delivery.values(b.file, b.record) {
         page.say("Here", &line_words(&tramo));
-        page.more(&format!(
-            "It is sought in {}, field 1 ID_LINEA, and is not there.",
-            counted(delivery, VERTICE)
-        ));
+        page.more(&not_there(delivery, "It", VERTICE));
     }
 }
 
@@ -92,12 +108,7 @@ fn no_user(page: &mut Page, delivery: &Delivery, b: &Break) {
         Some(line) => line,
         None => return,
     };
-    let text = format!(
-        "Line {line} is sought in {}, and is neither in a field 4 ID_LINEA nor, beside a blank \
-         one, in a field 1 ID_TRAMO.",
-        counted(delivery, TRAMO)
-    );
-    page.say("Here", &text);
+    page.say("Here", &no_user_words(delivery, line));
     // The likely cause: the tramo of this id is there and names another line.
     if let Some((record, tramo)) = delivery
         .select(TRAMO, |tramo| tramo.number(1) == Some(line))
@@ -109,6 +120,18 @@ fn no_user(page: &mut Page, delivery: &Delivery, b: &Break) {
         ));
         page.record(delivery, TRAMO, *record, &[Part::field(TRAMO, 4)]);
     }
+}
+
+fn no_user_words(delivery: &Delivery, line: u64) -> String {
+    let line = format!("Line {line}");
+    if delivery.is_absent(TRAMO) {
+        return absent(&line, TRAMO);
+    }
+    format!(
+        "{line} is sought in {}, and is neither in a field 4 ID_LINEA nor, beside a blank one, in \
+         a field 1 ID_TRAMO.",
+        counted(delivery, TRAMO)
+    )
 }
 
 /// A kind of object by its letter.

@@ -57,6 +57,7 @@ fn case_3_node_2_at_x_141() {
         file: 5,
         record: 1,
         field: 7,
+        other: 0,
     };
     assert_eq!(judge(lent(&files)), Verdict::Broken(found));
 }

@@ -283,16 +283,34 @@ fn twenties(files: &Files, list: &mut Vec<Place>) {
     }
 }
 
+/// What else a reason tells at its place: the least earlier record that is alike, or the letter of
+/// the code's entry in the catalogue.
+fn other(files: &Files, (_, file, record, field, reason): Place) -> u64 {
+    let earlier = |alike: &dyn Fn(usize) -> bool| (1..record).find(|&r| alike(r)).unwrap() as u64;
+    match reason {
+        30 => earlier(&|r| key(files, file, r) == key(files, file, record)),
+        54 => earlier(&|r| xyz(files, r) == xyz(files, record)),
+        41 => {
+            let code = bytes(files, file, record, field);
+            let entry = records(files, 1).find(|&r| bytes(files, 1, r, 1) == code);
+            u64::from(bytes(files, 1, entry.unwrap(), 2)[0])
+        }
+        _ => 0,
+    }
+}
+
 fn listed(files: &Files) -> Option<Break> {
     for group in [tens, twenties, thirties, forties, fifties] {
         let mut list = Vec::new();
         group(files, &mut list);
-        if let Some(&(_, file, record, field, reason)) = list.iter().min() {
+        if let Some(&place) = list.iter().min() {
+            let (_, file, record, field, reason) = place;
             return Some(Break {
                 reason,
                 file,
                 record,
                 field,
+                other: other(files, place),
             });
         }
     }

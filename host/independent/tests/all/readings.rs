@@ -582,6 +582,7 @@ fn as_many_records_as_allowed_are_judged() {
         file: 6,
         record: 16_000,
         field: 1,
+        other: 0,
     };
     assert_eq!(judge(lent(&files)), Verdict::Broken(found));
 }

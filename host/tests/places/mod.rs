@@ -1,0 +1,67 @@
+//! Deliveries of nodes whose numbers fall together: the number into which 54 mixes X, Y and Z (`spot` of crates/topology, nodes.rt).
+
+use canopyrail::{Value, FILES};
+
+/// The modulus of the mix of X and Y: of numbers that fall together by it only one is left.
+pub const WHOLE: u64 = 68_719_476_731;
+const FACTOR: u64 = 4_093_082_899;
+const PRIME: u64 = 8_589_934_583;
+
+/// X and Y of nodes without Z whose numbers are all equal by the period.
+pub fn falling_together(many: usize, period: u64) -> Vec<(i64, i64)> {
+    let mut places = Vec::new();
+    for x in 1i64.. {
+        // a coordinate that isn't negative is told as twice it and one
+        let past = (2 * x as u64 + 1) % 2_147_483_648 * FACTOR % WHOLE;
+        for turn in 0..WHOLE / period {
+            let y = (turn * period + WHOLE - past) % WHOLE;
+            let told = if y % 2 == 1 { y } else { y + PRIME };
+            if y < PRIME {
+                places.push((x, (told / 2) as i64));
+            }
+            if places.len() == many {
+                return places;
+            }
+        }
+    }
+    unreachable!()
+}
+
+fn record(file: usize, values: &[Value]) -> Vec<u8> {
+    let mut room = vec![0; canopyrail::LONGEST];
+    let length = canopyrail::write(file, values, &mut room).unwrap();
+    room.truncate(length);
+    room
+}
+
+/// A point object on each node, and nothing else.
+pub fn delivery(places: &[(i64, i64)]) -> [Vec<u8>; FILES] {
+    let none = Value::Missing;
+    let code = Value::Text(b"POZO".to_vec());
+    let mut files: [Vec<u8>; FILES] = Default::default();
+    files[0] = record(
+        1,
+        &[
+            code.clone(),
+            Value::Text(b"P".to_vec()),
+            none.clone(),
+            none.clone(),
+        ],
+    );
+    for (place, (x, y)) in places.iter().enumerate() {
+        let id = Value::Number(place as u64 + 1);
+        let mut point = vec![none.clone(); 13];
+        point[0] = id.clone();
+        point[2] = id.clone();
+        point[3] = code.clone();
+        point[8] = Value::Coordinate(*x);
+        point[10] = Value::Coordinate(*y);
+        files[1].extend(record(2, &point));
+        let mut node = vec![none.clone(); 8];
+        node[0] = id;
+        node[3] = Value::Coordinate(*x);
+        node[5] = Value::Coordinate(*y);
+        files[6].extend(record(7, &node));
+    }
+    files
+}

@@ -1,0 +1,76 @@
+//! Every safe function on threads of little stack: none may ask for more than its caller has.
+
+use canopyrail::{Reason, Value, Verdict};
+use deliveries::{damaged, full, Files, Random};
+use std::thread;
+
+const LITTLE: usize = 64 * 1024;
+
+/// Runs the work on a thread of 64 KiB of stack, or of the system's least where that is more.
+fn on_little_stack<T: Send>(work: impl FnOnce() -> T + Send) -> T {
+    thread::scope(|scope| {
+        let builder = thread::Builder::new().stack_size(LITTLE);
+        builder.spawn_scoped(scope, work).unwrap().join().unwrap()
+    })
+}
+
+fn lent(files: &Files) -> [&[u8]; 7] {
+    let [a, b, c, d, e, f, g] = files;
+    [a, b, c, d, e, f, g]
+}
+
+#[test]
+fn a_judging_on_little_stack() {
+    let files = full(&mut Random::new(1), 16_384);
+    let verdict = on_little_stack(|| canopyrail::judge(lent(&files)));
+    assert_eq!(verdict, Verdict::Accepted([16_384; 7]));
+    for seed in 0..200 {
+        let (files, _) = damaged(&mut Random::new(seed));
+        let there = independent::line(&independent::judge(lent(&files)));
+        let verdict = on_little_stack(|| canopyrail::try_judge(lent(&files)));
+        assert_eq!(canopyrail::line(&verdict.unwrap()), there, "seed {seed}");
+    }
+}
+
+#[test]
+fn many_judgings_at_once_on_little_stack() {
+    let files = full(&mut Random::new(2), 256);
+    thread::scope(|scope| {
+        for _ in 0..16 {
+            scope.spawn(|| {
+                let verdict = on_little_stack(|| canopyrail::judge(lent(&files)));
+                assert_eq!(verdict, Verdict::Accepted([256; 7]));
+            });
+        }
+    });
+}
+
+#[test]
+fn records_on_little_stack() {
+    let files = full(&mut Random::new(3), 8);
+    for (place, bytes) in files.iter().enumerate() {
+        let file = place + 1;
+        on_little_stack(|| {
+            assert_eq!(canopyrail::count(file, bytes), 8);
+            let values = canopyrail::read(file, bytes, 8).unwrap();
+            let mut room = [0; canopyrail::LONGEST];
+            let length = canopyrail::write(file, &values, &mut room).unwrap();
+            assert_eq!(room[..length], bytes[7 * length..]);
+            let refused = canopyrail::write(file, &[Value::Missing], &mut room).unwrap_err();
+            assert_eq!(refused.reason, Reason::NotGiven);
+        });
+    }
+}
+
+/// On a thread that has the stack, the same without a thread more.
+#[test]
+fn a_judging_on_a_stack_that_does() {
+    let files = full(&mut Random::new(4), 64);
+    let builder = thread::Builder::new().stack_size(2 * canopyrail::STACK);
+    let verdict = thread::scope(|scope| {
+        // SAFETY: the thread has twice the stack that a judging takes.
+        let work = || unsafe { canopyrail::judge_here(lent(&files)) };
+        builder.spawn_scoped(scope, work).unwrap().join().unwrap()
+    });
+    assert_eq!(verdict, canopyrail::judge(lent(&files)));
+}
