@@ -742,6 +742,27 @@ static void check_write_refusals(void)
     CHECK(refuses(write_exactly(NODO, &v, FIELDS, 50), CANOPYRAIL_TOO_LARGE, 1));
 }
 
+/* Past the end of a shorter array every value is missing, whichever of the four it is: a length without its number is no id 0. */
+static void check_short_arrays(void)
+{
+    canopyrail_values v = node_at(100, 200);
+    /* NODO's id is at index 0, X and Y at 3 and 5; what is missing is told at the id or at the coordinate's sign. */
+    static const size_t told[] = {1, 3, 3, 3, 5, 5};
+
+    for (int array = 0; array < 4; array++)
+        for (size_t n = 0; n <= FIELDS; n++) {
+            arrays a = lend_values(&v, FIELDS);
+            uint8_t *room = lend_pattern(50);
+            uint64_t answer =
+                canopyrail_write(NODO, a.numbers, array == 0 ? n : FIELDS, a.coordinates, array == 1 ? n : FIELDS, a.lengths,
+                                 array == 2 ? n : FIELDS, a.texts, array == 3 ? n * TEXT + (n < FIELDS ? TEXT - 1 : 0) : TEXTS, room, 50);
+
+            CHECK(n < 6 ? refuses(answer, CANOPYRAIL_NOT_GIVEN, told[n]) : answer == 0);
+            CHECK(untouched(room, answer == 0 ? 50 : 0, 50));
+            give_back();
+        }
+}
+
 static void check_texts(void)
 {
     canopyrail_values v = no_values();
@@ -780,6 +801,7 @@ static void check_all(void)
     check_read_refusals();
     check_read_room();
     check_write_refusals();
+    check_short_arrays();
     check_texts();
 }
 
