@@ -26,8 +26,8 @@ use Rattle.record.proofs.TableLaws.{sane}
 use Rattle.keys.specs.Groups.{brokenBy}
 use Rattle.keys.specs.Rules.{keysBroken}
 use Rattle.topology.specs.Rules.{topologyBroken}
-use Rattle.judge.specs.Verdict.{judged}
-use Rattle.judge.specs.Broken.{isBroken, placeAt, First, Judges}
+use Rattle.judge.specs.Verdict.{judged, verdictOf}
+use Rattle.judge.specs.Broken.{isBroken, placeAt, First, Finds}
 use Rattle.judge.proofs.Exact.{exact}
 
 -- a file that is not too long has at most 16,384 records
@@ -158,8 +158,8 @@ record-small files n k (suc i) f e least =
         go false q = refl
 
 pub place-fits : (files : Files) (b : Break) → judged files ≡ Broken b → (b .file ≤ fileCount) × (b .«record» ≤ limit + 1) × (b .field ≤ mostFields)
-unfolding Judges
-place-fits files b e = go (subst (Judges files) e (exact files))
+unfolding Finds verdictOf
+place-fits files b e = go (subst (Finds files) e (exact files .finds))
   where
     go : First files b → (b .file ≤ fileCount) × (b .«record» ≤ limit + 1) × (b .field ≤ mostFields)
     go w =

@@ -3,9 +3,9 @@
 -- Assumes nothing.
 use Prim.Native.Nat.{ℕ, zero, suc, _+_, _-_, _/_, _%_, _<_}
 use mathlib.Core.Bool.{Bool, true, false}
-use mathlib.Core.List.{[], _∷_}
+use mathlib.Core.List.{List, [], _∷_}
 use mathlib.Core.Option.{Option, none, some}
-use mathlib.Core.Path.{_≡_, refl, sym, ap, subst, _∙_}
+use mathlib.Core.Path.{_≡_, refl, sym, ap, ap₂, subst, _∙_}
 use mathlib.Core.Logic.{⊎-elim}
 use native.Mathlib.Decide.{decLt}
 use native.Mathlib.Omega.{arith}
@@ -32,8 +32,9 @@ use Rattle.keys.proofs.GroupMeaning.{keys-means, over-fine, over-broken, break-
 use Rattle.keys.proofs.Shown.{ShownBy, keys-shown}
 use Rattle.topology.specs.Rules.{fiftyReasons, topologyIn, topologyFinding, topologyBroken}
 use Rattle.topology.proofs.Meaning.{topology-means, topology-shown}
-use Rattle.judge.specs.Verdict.{groups, groupAt, judged}
-use Rattle.judge.specs.Broken.{isBroken, reasonOf, placeAt, First, Judges}
+use Rattle.judge.specs.declared.judge.Verdict.{Verdict}
+use Rattle.judge.specs.Verdict.{groups, groupAt, judged, countsOf, verdictOf}
+use Rattle.judge.specs.Broken.{isBroken, reasonOf, placeAt, First, Finds, Judges}
 
 -- a finding means the same of tests that are the same in its ten
 means-same :
@@ -159,11 +160,11 @@ module _ (files : Files) where
             (before-split (n' / 10) (numberOf (b .reason) / 10) _ _ l);
       }
 
-  pub exact : Judges files (judged files)
-  unfolding judged Judges
-  exact = go (firstOf (λ t. breakIn (groupAt files t)) (groups + 1)) refl
+  finds-first : Finds files (judged files)
+  unfolding judged Finds
+  finds-first = go (firstOf (λ t. breakIn (groupAt files t)) (groups + 1)) refl
     where
-      go : (o : Option Break) → firstOf (λ t. breakIn (groupAt files t)) (groups + 1) ≡ o → Judges files (findingOf o)
+      go : (o : Option Break) → firstOf (λ t. breakIn (groupAt files t)) (groups + 1) ≡ o → Finds files (findingOf o)
       go none e = λ n k i f. ten-fine (n / 10) (all-fine e (n / 10)) n k i f refl
       go (some b) e =
           let r = some-at _ (groups + 1) e in
@@ -188,9 +189,18 @@ module _ (files : Files) where
       let f : a .f ≡ a' .f = cc in
       a .shown ∙ rw (k, n, i, f) refl ∙ sym (a' .shown)
 
-  pub exact-one : (v w : Finding) → Judges files v → Judges files w → v ≡ w
-  unfolding Judges
-  exact-one Fine Fine m m' = refl
-  exact-one Fine (Broken b) m m' = absurd (true-false (sym (m' .really) ∙ m _ _ _ _))
-  exact-one (Broken b) Fine m m' = absurd (true-false (sym (m .really) ∙ m' _ _ _ _))
-  exact-one (Broken b) (Broken b') m m' = ap Broken (first-one m m')
+  one-finding : (v w : Finding) → Finds files v → Finds files w → v ≡ w
+  unfolding Finds
+  one-finding Fine Fine m m' = refl
+  one-finding Fine (Broken b) m m' = absurd (true-false (sym (m' .really) ∙ m _ _ _ _))
+  one-finding (Broken b) Fine m m' = absurd (true-false (sym (m .really) ∙ m' _ _ _ _))
+  one-finding (Broken b) (Broken b') m m' = ap Broken (first-one m m')
+
+  -- THE VERDICT means that, with its counts, and no other does
+  pub exact : Judges files (verdictOf files)
+  unfolding verdictOf countsOf
+  exact = record { finds = finds-first; counted = refl }
+
+  pub exact-one : (v w : Verdict) → Judges files v → Judges files w → v ≡ w
+  exact-one v w m m' =
+      ap₂ (λ (f : Finding) (c : List ℕ). record { finding = f; counts = c }) (one-finding (v .finding) (w .finding) (m .finds) (m' .finds)) (m .counted ∙ sym (m' .counted))

@@ -9,7 +9,6 @@ use lib.ListN.{length, take, drop, getD}
 use Rattle.record.specs.declared.kind.Kind.{Kind}
 use Rattle.record.specs.declared.kind.Which.the-variants.{File}
 use Rattle.record.specs.declared.reason.Reason.{Reason}
-use Rattle.record.specs.declared.reason.Finding.{Finding}
 use Rattle.record.specs.Table.{fieldsOf, lengthOf, whichOf}
 use Rattle.record.specs.Files.{Files}
 use Rattle.record.specs.Cut.{countOf, recordOf}
@@ -22,7 +21,7 @@ use Rattle.codec.specs.Values.{valuesSay}
 use Rattle.codec.specs.Calls.{readOf, Writes}
 use Rattle.codec.proofs.Theorems as one
 use Rattle.judge.specs.declared.judge.Verdict.{Verdict}
-use Rattle.judge.specs.Verdict.{judged, verdictOf}
+use Rattle.judge.specs.Verdict.{verdictOf}
 use Rattle.judge.specs.Line.{big, programLine}
 use Rattle.judge.specs.Broken.{Judges}
 use Rattle.judge.specs.Words.{SameButWords}
@@ -70,11 +69,12 @@ pub written-is-lawful :
     → (f u : ℕ) → f ≤ fieldsOf k → getD (twenties (recordOf after k 0) k f) u false ≡ false
 written-is-lawful = one.written-is-lawful
 
--- 3. EXACT: the finding is Fine exactly if no rule is broken; else it is the break that is broken and before which none is.
-pub exact : (files : Files) → Judges files (judged files)
+-- 3. EXACT: the verdict's finding is Fine exactly if no rule is broken; else it is the break that is broken and before which none is. Its
+-- counts are the whole records of each file.
+pub exact : (files : Files) → Judges files (verdictOf files)
 exact = exactly.exact
 
-pub exact-one : (files : Files) (v w : Finding) → Judges files v → Judges files w → v ≡ w
+pub exact-one : (files : Files) (v w : Verdict) → Judges files v → Judges files w → v ≡ w
 exact-one = exactly.exact-one
 
 -- The writer's promise: values that obey the rules, as files that the writer makes of them, are accepted, with their counts,

@@ -2,7 +2,7 @@
 -- Assumes nothing.
 use Prim.Native.Nat.{ℕ, _-_, _/_, _%_}
 use mathlib.Core.Bool.{Bool, true, false}
-use mathlib.Core.List.{List, [], _∷_}
+use mathlib.Core.List.{List, [], _∷_, map}
 use mathlib.Core.Path.{_≡_}
 use lib.ListN.{getD}
 use Rattle.laws.specs.Nest.{before}
@@ -12,10 +12,12 @@ use Rattle.record.specs.declared.reason.Reason.the-variants.{LongFile10}
 use Rattle.record.specs.declared.reason.Break.{Break}
 use Rattle.record.specs.declared.reason.Finding.{Finding}
 use Rattle.record.specs.declared.reason.Finding.the-variants.{Fine, Broken}
-use Rattle.record.specs.Table.{fileOf}
+use Rattle.record.specs.Table.{fileOf, kinds}
+use Rattle.record.specs.Cut.{countOf}
 use Rattle.record.specs.Files.{Files, deliveryOf}
 use Rattle.record.specs.Breaks.{numberOf, breakOf, tenReasons, twentyReasons, broken}
 use Rattle.keys.specs.Rules.{keyReasons, keysBroken}
+use Rattle.judge.specs.declared.judge.Verdict.{Verdict}
 use Rattle.topology.specs.Rules.{fiftyReasons, topologyBroken}
 
 -- the reason with document 01's number n is broken at record i, field f of file k. Document 01 reads a rule only where no lower ten is
@@ -63,6 +65,11 @@ pub record First (files : Files) (b : Break) : Type 0 where
   pub least : (n' : ℕ) (k' : Kind) (i' f' : ℕ) → isBroken files n' k' i' f' ≡ true → before (placeAt n' k' i' f') (placeAt n k i f) ≡ true → ⊥
 
 -- what a finding on a delivery is to mean
-unfoldable pub Judges : Files → Finding → Type 0
-Judges files Fine = (n : ℕ) (k : Kind) (i f : ℕ) → isBroken files n k i f ≡ false
-Judges files (Broken b) = First files b
+unfoldable pub Finds : Files → Finding → Type 0
+Finds files Fine = (n : ℕ) (k : Kind) (i f : ℕ) → isBroken files n k i f ≡ false
+Finds files (Broken b) = First files b
+
+-- what a verdict is to mean: its finding, and beside it how many whole records each file has
+pub record Judges (files : Files) (v : Verdict) : Type 0 where
+  pub finds : Finds files (v .finding)
+  pub counted : v .counts ≡ map (λ k. countOf (files k) k) kinds
