@@ -1,17 +1,22 @@
 -- What the library promises to a host, each with its full statement.
 -- Assumes nothing.
 use Prim.Native.Nat.{ℕ, _<_}
+use mathlib.Core.List.{List}
 use mathlib.Core.Path.{_≡_, refl, ap}
 use native.Mathlib.Omega.{arith}
+use lib.IntN.{ℤ}
 use Rattle.record.specs.declared.reason.Break.{Break}
 use Rattle.record.specs.declared.reason.Finding.{Finding}
 use Rattle.record.specs.declared.reason.Finding.the-variants.{Fine, Broken}
 use Rattle.record.specs.Files.{Files}
 use Rattle.record.specs.Breaks.{numberOf}
+use Rattle.codec.specs.declared.values.Values.{Values}
 use Rattle.judge.specs.Verdict.{judged}
 use Rattle.canopyrail.specs.Answers.{answerNumber, breakWord, findingWord, reasonIn, fileIn, recordIn, fieldIn}
+use Rattle.canopyrail.specs.Lent.{Reads, WritesLent}
 use Rattle.canopyrail.proofs.CallLaws.{break-told}
 use Rattle.canopyrail.proofs.Fits.{place-fits}
+use Rattle.canopyrail.proofs.Border as border
 
 -- THE ANSWER OF A JUDGING
 -- it is 0 exactly if the delivery is accepted
@@ -42,3 +47,28 @@ unfolding breakWord
 answer-tells files b e =
     let p = place-fits files b e in
     rw e (apart (numberOf (b .reason)) (b .file) (b .«record») (b .field) _ (omega (arith, p .0)) (omega (arith, p .1)) (omega (arith, p .2)))
+
+-- THE CALLS ON ONE RECORD, whose contracts are `Reads` and `WritesLent` (specs/Lent.antt): N, C, L and T are the lent numbers,
+-- coordinates, lengths and texts before a call, N', C', L' and T' after it.
+-- A refusal leaves all that was lent.
+pub refused-reading-leaves-all :
+    (file : ℕ) (s : List ℕ) (n : ℕ) (N : List ℕ) (C : List ℤ) (L T : List ℕ) (r : ℕ) (N' : List ℕ) (C' : List ℤ) (L' T' : List ℕ)
+    → Reads file s n N C L T r N' C' L' T' → (r ≡ 0 → ⊥)
+    → (N' ≡ N) × (C' ≡ C) × (L' ≡ L) × (T' ≡ T)
+refused-reading-leaves-all file s n N C L T r N' C' L' T' w never = (w .numbersStay never, w .coordinatesStay never, w .lengthsStay never, w .textsStay never)
+
+pub refused-writing-leaves-room : (file : ℕ) (v : Values) (room : List ℕ) (r : ℕ) (after : List ℕ) → WritesLent file v room r after → (r ≡ 0 → ⊥) → after ≡ room
+refused-writing-leaves-room = border.room-left
+
+-- Each has one outcome: an answer and what the lent memory holds.
+pub one-reading :
+    (file : ℕ) (s : List ℕ) (n : ℕ) (N : List ℕ) (C : List ℤ) (L T : List ℕ)
+    (r : ℕ) (N' : List ℕ) (C' : List ℤ) (L' T' : List ℕ) (r' : ℕ) (N'' : List ℕ) (C'' : List ℤ) (L'' T'' : List ℕ)
+    → Reads file s n N C L T r N' C' L' T' → Reads file s n N C L T r' N'' C'' L'' T''
+    → (r ≡ r') × (N' ≡ N'') × (C' ≡ C'') × (L' ≡ L'') × (T' ≡ T'')
+one-reading = border.read-once
+
+pub one-writing :
+    (file : ℕ) (v : Values) (room : List ℕ) (r r' : ℕ) (after after' : List ℕ) → WritesLent file v room r after → WritesLent file v room r' after'
+    → (r ≡ r') × (after ≡ after')
+one-writing = border.written-once
