@@ -1,19 +1,26 @@
 -- What the library promises to a host, each with its full statement.
 -- Assumes nothing.
-use Prim.Native.Nat.{ℕ, _<_}
-use mathlib.Core.List.{List}
+use Prim.Native.Nat.{ℕ, _-_, _<_, _≤_}
+use mathlib.Core.Bool.{true}
+use mathlib.Core.List.{List, _++_}
 use mathlib.Core.Path.{_≡_, refl, ap}
 use native.Mathlib.Omega.{arith}
 use lib.IntN.{ℤ}
+use lib.ListN.{length, drop}
+use Rattle.record.specs.declared.kind.Kind.{Kind}
+use Rattle.record.specs.declared.kind.Which.the-variants.{File}
 use Rattle.record.specs.declared.reason.Break.{Break}
 use Rattle.record.specs.declared.reason.Finding.{Finding}
 use Rattle.record.specs.declared.reason.Finding.the-variants.{Fine, Broken}
+use Rattle.record.specs.Table.{fieldsOf, lengthOf, whichOf}
 use Rattle.record.specs.Files.{Files}
+use Rattle.record.specs.Cut.{recordOf}
 use Rattle.record.specs.Breaks.{numberOf}
 use Rattle.codec.specs.declared.values.Values.{Values}
+use Rattle.codec.specs.Values.{valuesSay}
 use Rattle.judge.specs.Verdict.{judged}
 use Rattle.canopyrail.specs.Answers.{answerNumber, breakWord, findingWord, reasonIn, fileIn, recordIn, fieldIn}
-use Rattle.canopyrail.specs.Lent.{Reads, WritesLent}
+use Rattle.canopyrail.specs.Lent.{roomy, Reads, lentValues, WritesLent}
 use Rattle.canopyrail.proofs.CallLaws.{break-told}
 use Rattle.canopyrail.proofs.Fits.{place-fits}
 use Rattle.canopyrail.proofs.Border as border
@@ -72,3 +79,21 @@ pub one-writing :
     (file : ℕ) (v : Values) (room : List ℕ) (r r' : ℕ) (after after' : List ℕ) → WritesLent file v room r after → WritesLent file v room r' after'
     → (r ≡ r') × (after ≡ after')
 one-writing = border.written-once
+
+-- A record that is read into lent arrays is written back from them, into any room that is long enough: 0, and the room begins with
+-- the record that was read, byte by byte, and is else as it was.
+pub read-is-written-back :
+    (file : ℕ) (k : Kind) → whichOf file ≡ File k
+    → (s : List ℕ) (n : ℕ) (N : List ℕ) (C : List ℤ) (L T N' : List ℕ) (C' : List ℤ) (L' T' : List ℕ) → Reads file s n N C L T 0 N' C' L' T'
+    → (room : List ℕ) (r : ℕ) (after : List ℕ) → lengthOf k ≤ length room → WritesLent file (lentValues N' C' L' T') room r after
+    → (r ≡ 0) × (after ≡ recordOf s k (n - 1) ++ drop (lengthOf k) room)
+read-is-written-back file k e s n N C L T N' C' L' T' w = border.written-back file k e s n w
+
+-- What is written from lent arrays is read back into any that are long enough: 0, and they say the same in each field.
+pub written-is-read-back :
+    (file : ℕ) (k : Kind) → whichOf file ≡ File k
+    → (N : List ℕ) (C : List ℤ) (L T room after : List ℕ) → WritesLent file (lentValues N C L T) room 0 after
+    → (N0 : List ℕ) (C0 : List ℤ) (L0 T0 : List ℕ) (r : ℕ) (N' : List ℕ) (C' : List ℤ) (L' T' : List ℕ)
+    → roomy (length N0) (length C0) (length L0) (length T0) ≡ true → Reads file after 1 N0 C0 L0 T0 r N' C' L' T'
+    → (r ≡ 0) × ((f : ℕ) → 1 ≤ f → f ≤ fieldsOf k → valuesSay k (lentValues N' C' L' T') f ≡ valuesSay k (lentValues N C L T) f)
+written-is-read-back file k e N C L T room after w = border.read-back file k e (lentValues N C L T) room after w
