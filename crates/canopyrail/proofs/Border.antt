@@ -16,7 +16,7 @@ use lib.ListN.{length, getD, take, drop, length-append, List·getD-append}
 use lib.Seq.{take-at, drop-at, take-all}
 use borrow.Author.Tests.{lt-ltb, le-leb}
 use Rattle.laws.specs.Row.{pick, row}
-use Rattle.laws.proofs.RowLaws.{length-row, row-at, picked, true-and}
+use Rattle.laws.proofs.RowLaws.{length-row, row-at, picked}
 use Rattle.field.specs.declared.class.Class.the-variants.{Blank}
 use Rattle.field.specs.Bytes.{allOf}
 use Rattle.field.specs.Texts.{padded, firstBytes, trimmed}
@@ -228,7 +228,7 @@ module _ (file : ℕ) (k : Kind) (e : whichOf file ≡ File k) where
     written-back room r after m x =
         let same = one.said-alike file k e (lentValues n' c' l' t') (readOf file s i .values) arrays-say room in
         let p = one.writes-what-was-read file k e s i read-done room after (x .answer) m
-                (record { says = x .writes .says ∙ same .0; leaves = x .writes .leaves ∙ same .1 (x .answer) }) in
+        (record { says = x .writes .says ∙ same .0; leaves = x .writes .leaves ∙ same .1 (x .answer) }) in
         (x .says ∙ ap answerWord (p .0), p .1)
 
   -- WRITTEN, then read
