@@ -1,4 +1,5 @@
 pub mod CallLaws
 pub mod LentLaws
 pub mod Fits
+pub mod Border
 pub mod Promises
