@@ -29,6 +29,7 @@ use Rattle.canopyrail.specs.Lent.{roomy, Reads, lentValues, WritesLent}
 use Rattle.canopyrail.proofs.CallLaws.{break-told}
 use Rattle.canopyrail.proofs.Fits.{place-fits}
 use Rattle.canopyrail.proofs.Border as border
+use Rattle.canopyrail.proofs.Back as back
 
 -- THE ANSWER OF A JUDGING
 -- it is 0 exactly if the delivery is accepted
@@ -86,7 +87,7 @@ pub read-is-written-back :
     → (s : List ℕ) (n : ℕ) (N : List ℕ) (C : List ℤ) (L T N' : List ℕ) (C' : List ℤ) (L' T' : List ℕ) → Reads file s n N C L T 0 N' C' L' T'
     → (room : List ℕ) (r : ℕ) (after : List ℕ) → lengthOf k ≤ length room → WritesLent file (lentValues N' C' L' T') room r after
     → (r ≡ 0) × (after ≡ recordOf s k (n - 1) ++ drop (lengthOf k) room)
-read-is-written-back file k e s n N C L T N' C' L' T' w = border.written-back file k e s n w
+read-is-written-back file k e s n N C L T N' C' L' T' w = back.written-back file k e s n w
 
 -- What is written from lent arrays is read back into any that are long enough: 0, and they say the same in each field.
 pub written-is-read-back :
@@ -95,7 +96,7 @@ pub written-is-read-back :
     → (N0 : List ℕ) (C0 : List ℤ) (L0 T0 : List ℕ) (r : ℕ) (N' : List ℕ) (C' : List ℤ) (L' T' : List ℕ)
     → roomy (length N0) (length C0) (length L0) (length T0) ≡ true → Reads file after 1 N0 C0 L0 T0 r N' C' L' T'
     → (r ≡ 0) × ((f : ℕ) → 1 ≤ f → f ≤ fieldsOf k → valuesSay k (lentValues N' C' L' T') f ≡ valuesSay k (lentValues N C L T) f)
-written-is-read-back file k e N C L T room after w = border.read-back file k e (lentValues N C L T) room after w
+written-is-read-back file k e N C L T room after w = back.read-back file k e (lentValues N C L T) room after w
 
 -- Of a refusal, reason and field are had back from the answer: those that `readOf` refuses with, or 61 at no field, where it would
 -- read the record and the arrays are too short for it;
