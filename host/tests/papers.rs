@@ -140,3 +140,35 @@ fn paths_that_papers_name_are_there() {
         }
     }
 }
+
+/// A page with single blanks for all blanks and line ends.
+fn flowing(page: &str) -> String {
+    page.split_whitespace().collect::<Vec<_>>().join(" ")
+}
+
+const README: &str = include_str!("../../README.md");
+const FIRST: &str = include_str!("../../examples/first.c");
+
+/// The lines of C that README shows are a program, which tests/host compiles and runs.
+#[test]
+fn readme_has_the_first_example() {
+    assert!(README.contains(&format!("```c\n{FIRST}```\n")));
+    assert!(README.contains("examples/first.c \"$lib/libcanopyrail.a\" -o target/first"));
+}
+
+/// What a newcomer must learn from the papers, wherever a page is rewritten.
+#[test]
+fn papers_say_where_box_and_command_differ() {
+    for (name, page, said) in [
+        ("README", README, "The box's program has no exit status"),
+        (
+            "README",
+            README,
+            "| a file of more than 8,192 bytes | `BIG`",
+        ),
+        ("the card", CARD, "The box's program has no exit status"),
+        ("the card", CARD, "Judge it on a machine with the command"),
+    ] {
+        assert!(flowing(page).contains(said), "{name} does not say: {said}");
+    }
+}

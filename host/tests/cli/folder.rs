@@ -7,7 +7,7 @@ use std::path::Path;
 use std::process::Command;
 
 use crate::build::{s, Files, NAMES, NODO, OB_TEX};
-use crate::run::{explain, judge, run, show, Room, Run};
+use crate::run::{explain, judge, run, run_in_time, show, Room, Run};
 
 #[test]
 fn what_cannot_be_judged() {
@@ -42,11 +42,13 @@ fn a_pipe_is_no_file() {
     let room = Room::holding(&s());
     fs::remove_file(room.file(NODO)).unwrap();
     make_pipe(&room.file(NODO));
-    for page in [
-        judge(&room.path),
-        explain(&room.path),
-        show(&room.file(NODO), "1"),
+    let (folder, file) = (room.path.as_os_str(), room.file(NODO));
+    for words in [
+        &[OsStr::new("judge"), folder][..],
+        &[OsStr::new("explain"), folder],
+        &[OsStr::new("show"), file.as_os_str(), OsStr::new("1")],
     ] {
+        let page = run_in_time(words);
         assert_eq!((page.status, page.out.as_str()), (2, ""));
         assert!(
             page.err.ends_with("/NODO: a pipe, not a file\n"),

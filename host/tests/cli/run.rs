@@ -76,13 +76,24 @@ pub fn command<T: AsRef<OsStr>>(words: &[T]) -> Command {
     command
 }
 
-pub fn run<T: AsRef<OsStr>>(words: &[T]) -> Run {
-    let output = command(words).output().unwrap();
+fn ended(command: &mut Command) -> Run {
+    let output = command.output().unwrap();
     Run {
         status: output.status.code().expect("ended by a signal"),
         out: String::from_utf8(output.stdout).unwrap(),
         err: String::from_utf8(output.stderr).unwrap(),
     }
+}
+
+pub fn run<T: AsRef<OsStr>>(words: &[T]) -> Run {
+    ended(&mut command(words))
+}
+
+/// Runs what may wait for something; after half a minute it is ended, with a status of its own.
+pub fn run_in_time<T: AsRef<OsStr>>(words: &[T]) -> Run {
+    let mut command = Command::new("timeout");
+    command.args(["30", env!("CARGO_BIN_EXE_canopyrail")]);
+    ended(command.args(words).stdin(Stdio::null()))
 }
 
 pub fn judge(path: &Path) -> Run {
