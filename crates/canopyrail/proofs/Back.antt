@@ -24,7 +24,7 @@ use Rattle.record.specs.declared.kind.Kind.{Kind}
 use Rattle.record.specs.declared.kind.Form.{Form}
 use Rattle.record.specs.declared.kind.Form.the-variants.{Words, Code, Sign, Number, Size}
 use Rattle.record.specs.declared.kind.Which.the-variants.{File}
-use Rattle.record.specs.Table.{formAt, fieldsOf, lengthOf, whichOf}
+use Rattle.record.specs.Table.{formAt, fieldsOf, lengthOf, whichOf, mostFields, widest}
 use Rattle.record.specs.Cut.{recordOf, textOf}
 use Rattle.record.specs.Says.{saidAs, saidIn}
 use Rattle.record.proofs.TableLaws.{sane}
@@ -38,7 +38,7 @@ use Rattle.codec.specs.Calls.{readOf, Writes}
 use Rattle.codec.proofs.CallLaws as calls
 use Rattle.codec.proofs.Theorems as one
 use Rattle.canopyrail.specs.Answers.{answerWord}
-use Rattle.canopyrail.specs.Lent.{lentLength, strung, Holds, roomy, readAnswer, Reads, heldValue, isLent, lentValue, lentValues, WritesLent}
+use Rattle.canopyrail.specs.Lent.{textRoom, lentLength, strung, Holds, roomy, readAnswer, Reads, heldValue, isLent, lentValue, lentValues, WritesLent}
 use Rattle.canopyrail.proofs.CallLaws.{refusal-told}
 
 -- VALUES PUT INTO LENT MEMORY AND TAKEN AGAIN
@@ -49,19 +49,19 @@ module _ {A : Type 0} (g : ℕ → A) (n : ℕ) (rest : List A) {xs : List A} (e
   row-front : (d : A) {i : ℕ} → i < n → getD xs i d ≡ g i
   row-front d {i} l = rw e (List·getD-append (row g n) rest d i (rw length-row l) ∙ row-at g n d l)
 
-module _ (g : ℕ → List ℕ) (w : (j : ℕ) → length (g j) ≡ 60) where
-  length-strung : (n : ℕ) → length (strung g n) ≡ 60 * n
+module _ (g : ℕ → List ℕ) (w : (j : ℕ) → length (g j) ≡ widest) where
+  length-strung : (n : ℕ) → length (strung g n) ≡ widest * n
   unfolding strung
   length-strung zero = refl
   length-strung (suc n) = simp (length-append, length-strung n, w n) (omega arith)
 
-  strung-front : (n : ℕ) {i : ℕ} (rest : List ℕ) → i < n → take 60 (drop (60 * i) (strung g n ++ rest)) ≡ g i
+  strung-front : (n : ℕ) {i : ℕ} (rest : List ℕ) → i < n → take widest (drop (widest * i) (strung g n ++ rest)) ≡ g i
   unfolding strung
   strung-front zero rest l = absurd (not-suc-le-zero l)
   strung-front (suc n) {i} rest l =
       rw (append-assoc (strung g n) (g n) rest)
       (⊎-elim
-      (λ (e : i ≡ n). rw e (ap (take 60) (drop-at (strung g n) (g n ++ rest) (60 * n) (length-strung n)) ∙ take-at (g n) rest 60 (w n)))
+      (λ (e : i ≡ n). rw e (ap (take widest) (drop-at (strung g n) (g n ++ rest) (widest * n) (length-strung n)) ∙ take-at (g n) rest widest (w n)))
       (λ l'. strung-front n (g n ++ rest) l')
       (eq-or-lt-of-le (le-of-suc-le-suc l)))
 
@@ -73,40 +73,40 @@ again x =
       number = x .number;
       coordinate = x .coordinate;
       len = lentLength x;
-      text = padded 60 (padded 60 (firstBytes 60 (x .text)));
+      text = padded widest (padded widest (firstBytes widest (x .text)));
     }
 
-is-lent : (a b c d i : ℕ) → i < a → i < b → i < c → 60 * i + 60 ≤ d → isLent a b c d i ≡ true
+is-lent : (a b c d i : ℕ) → i < a → i < b → i < c → widest * i + widest ≤ d → isLent a b c d i ≡ true
 unfolding isLent
-is-lent a b c d i p q r s = rw (lt-ltb i a p, lt-ltb i b q, lt-ltb i c r) (le-leb (60 * i + 60) d s)
+is-lent a b c d i p q r s = rw (lt-ltb i a p, lt-ltb i b q, lt-ltb i c r) (le-leb (widest * i + widest) d s)
 
 module _ (v : Values) {n : List ℕ} {c : List ℤ} {l t n' : List ℕ} {c' : List ℤ} {l' t' : List ℕ} (h : Holds v n c l t n' c' l' t') where
-  texts-long : 840 ≤ length t'
+  texts-long : textRoom ≤ length t'
   texts-long =
-      let w = length-strung (λ j. padded 60 (firstBytes 60 (valueAt v (j + 1) .text))) (λ j. length-padded 60 _) 14 in
+      let w = length-strung (λ j. padded widest (firstBytes widest (valueAt v (j + 1) .text))) (λ j. length-padded widest _) mostFields in
       rw (h .theTexts) (simp (length-append, w) (omega arith))
 
-  taken-again : {i : ℕ} → i < 14 → lentValue n' c' l' t' i ≡ again (valueAt v (i + 1))
+  taken-again : {i : ℕ} → i < mostFields → lentValue n' c' l' t' i ≡ again (valueAt v (i + 1))
   unfolding lentValue heldValue again
   taken-again {i} b =
       let gn : ℕ → ℕ = λ j. valueAt v (j + 1) .number in
       let gc : ℕ → ℤ = λ j. valueAt v (j + 1) .coordinate in
       let gl : ℕ → ℕ = λ j. lentLength (valueAt v (j + 1)) in
-      let ln = row-long gn 14 (drop 14 n) (h .theNumbers) in
-      let lc = row-long gc 14 (drop 14 c) (h .theCoordinates) in
-      let ll = row-long gl 14 (drop 14 l) (h .theLengths) in
+      let ln = row-long gn mostFields (drop mostFields n) (h .theNumbers) in
+      let lc = row-long gc mostFields (drop mostFields c) (h .theCoordinates) in
+      let ll = row-long gl mostFields (drop mostFields l) (h .theLengths) in
       let there = is-lent (length n') (length c') (length l') (length t') i (omega arith) (omega arith) (omega arith) (omega (arith, texts-long)) in
-      let text' : take 60 (drop (60 * i) t') ≡ padded 60 (firstBytes 60 (valueAt v (i + 1) .text)) =
-      rw (h .theTexts) (strung-front (λ j. padded 60 (firstBytes 60 (valueAt v (j + 1) .text))) (λ j. length-padded 60 _) 14 (drop 840 t) b) in
-      rw (there, row-front gn 14 (drop 14 n) (h .theNumbers) 0 b, row-front gc 14 (drop 14 c) (h .theCoordinates) (pos 0) b, row-front gl 14 (drop 14 l) (h .theLengths) 0 b, text')
+      let text' : take widest (drop (widest * i) t') ≡ padded widest (firstBytes widest (valueAt v (i + 1) .text)) =
+      rw (h .theTexts) (strung-front (λ j. padded widest (firstBytes widest (valueAt v (j + 1) .text))) (λ j. length-padded widest _) mostFields (drop textRoom t) b) in
+      rw (there, row-front gn mostFields (drop mostFields n) (h .theNumbers) 0 b, row-front gc mostFields (drop mostFields c) (h .theCoordinates) (pos 0) b, row-front gl mostFields (drop mostFields l) (h .theLengths) 0 b, text')
 
 -- what a record said as values is said again: of a number or a coordinate that is given the length is 1, of a text its own
-sixty-kept : (y : List ℕ) → length y ≡ 60 → padded 60 (padded 60 (firstBytes 60 y)) ≡ y
+widest-kept : (y : List ℕ) → length y ≡ widest → padded widest (padded widest (firstBytes widest y)) ≡ y
 unfolding padded
-sixty-kept y w =
-    let f : firstBytes 60 y ≡ y = first-bytes-le 60 y (omega arith) ∙ take-all 60 y (omega arith) in
-    let p : padded 60 y ≡ y = take-at y _ 60 w in
-    ap (λ (z : List ℕ). padded 60 (padded 60 z)) f ∙ ap (padded 60) p ∙ p
+widest-kept y w =
+    let f : firstBytes widest y ≡ y = first-bytes-le widest y (omega arith) ∙ take-all widest y (omega arith) in
+    let p : padded widest y ≡ y = take-at y _ widest w in
+    ap (λ (z : List ℕ). padded widest (padded widest z)) f ∙ ap (padded widest) p ∙ p
 
 length-kept : (n : ℕ) → pick (not (eqb n 0) && eqb n 0) 1 n ≡ n
 length-kept n = go (eqb n 0)
@@ -117,7 +117,7 @@ length-kept n = go (eqb n 0)
 
 text-again : (t : List ℕ) → textBy (again (textValue t)) ≡ textBy (textValue t)
 unfolding again textValue lentLength
-text-again t = rw (length-kept (length t), sixty-kept (padded 60 t) (length-padded 60 t))
+text-again t = rw (length-kept (length t), widest-kept (padded widest t) (length-padded widest t))
 
 said-again : (form : Form) (t b : List ℕ) → saidBy form (again (valueOf (saidAs form t b))) ≡ saidBy form (valueOf (saidAs form t b))
 unfolding saidAs valueOf again lentLength
@@ -129,17 +129,17 @@ said-again Size t b = picked (λ x. saidBy Size (again (valueOf x)) ≡ saidBy S
 
 -- THE ARRAYS say what the record said
 module _ (s : List ℕ) (k : Kind) {n : List ℕ} {c : List ℤ} {l t n' : List ℕ} {c' : List ℤ} {l' t' : List ℕ} (h : Holds (valuesIn s k) n c l t n' c' l' t') where
-  value-in : {i : ℕ} → i < 14 → valueAt (valuesIn s k) (i + 1) ≡ valueOf (saidIn s k (i + 1))
+  value-in : {i : ℕ} → i < mostFields → valueAt (valuesIn s k) (i + 1) ≡ valueOf (saidIn s k (i + 1))
   unfolding valueAt valuesIn
-  value-in {i} b = rw add-one (rw add-one at (row-at (λ j. valueOf (saidIn s k (j + 1))) 14 noValue b))
+  value-in {i} b = rw add-one (rw add-one at (row-at (λ j. valueOf (saidIn s k (j + 1))) mostFields noValue b))
 
   pub lent-say : (f : ℕ) → 1 ≤ f → f ≤ fieldsOf k → valuesSay k (lentValues n' c' l' t') f ≡ valuesSay k (valuesIn s k) f
   unfolding valuesSay valueAt lentValues saidIn
   lent-say zero a b = absurd (not-suc-le-zero a)
   lent-say (suc i) a b =
-      let m : i < 14 = omega (arith, sane k .few) in
+      let m : i < mostFields = omega (arith, sane k .few) in
       let x = value-in m in
-      ap (saidBy (formAt k (suc i))) (row-at (lentValue n' c' l' t') 14 noValue m ∙ taken-again (valuesIn s k) h m ∙ ap again x)
+      ap (saidBy (formAt k (suc i))) (row-at (lentValue n' c' l' t') mostFields noValue m ∙ taken-again (valuesIn s k) h m ∙ ap again x)
       ∙ rw add-one (said-again (formAt k (suc i)) (textOf s k (suc i)) (textOf s k (suc i - 1)))
       ∙ ap (saidBy (formAt k (suc i))) (sym (rw add-one at x))
 

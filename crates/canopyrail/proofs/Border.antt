@@ -89,7 +89,7 @@ refusal-tells reason field h e =
     let p = apart (numberOf reason) 0 0 field 0 (omega arith) (omega arith) (omega arith) in
     (ap reasonIn e ∙ p .0, ap fieldIn e ∙ p .3)
 
--- no field past the fourteenth is refused
+-- no field past the last that a record may have is refused
 field-zero : {reason reason' : Reason} {field : ℕ} → Refused reason field ≡ Refused reason' 0 → field ≤ mostFields
 field-zero {field = field} e =
     let z : field ≡ 0 = cc in

@@ -86,7 +86,7 @@ module _ (files : Files) (n : ℕ) (k : Kind) (i f : ℕ) where
   unfolding topologyBroken
   topology-where e = by-where _ k (deliveryOf files k .count) n i f (min-le-left limit (countOf (files k) k)) e
 
-  -- a break is at the file's whole records plus 1 at most, where that is more than the limit; and at no field past the fourteenth
+  -- a break is at the file's whole records plus 1 at most, where that is more than the limit; and at no field past the last that a record may have
   broken-where : isBroken files n k i f ≡ true → ((i ≤ countOf (files k) k + 1) ⊎ (i ≤ limit)) × (f ≤ mostFields)
   unfolding isBroken
   broken-where e = go (n / 10) refl e

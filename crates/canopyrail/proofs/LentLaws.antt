@@ -19,6 +19,7 @@ use Rattle.field.proofs.TextLaws.{first-bytes-le}
 use Rattle.record.specs.declared.reason.Reason.{Reason}
 use Rattle.record.specs.declared.reason.Reason.the-variants as R
 use Rattle.record.specs.declared.reason.Reason.the-variants.{ShortRoom61}
+use Rattle.record.specs.Table.{mostFields, widest}
 use Rattle.codec.specs.declared.values.Value.{Value}
 use Rattle.codec.specs.declared.values.Values.{Values}
 use Rattle.codec.specs.declared.values.Answer.{Answer}
@@ -27,7 +28,7 @@ use Rattle.codec.specs.declared.values.Answer.the-variants.{Done, Refused}
 use Rattle.codec.specs.declared.values.Reading.{Reading}
 use Rattle.codec.specs.Calls.{Writes, readOf}
 use Rattle.canopyrail.specs.Answers.{refusalWord, answerWord}
-use Rattle.canopyrail.specs.Lent.{strung, lentLength, Holds, heldValue, WritesLent, roomy, readAnswer, Reads}
+use Rattle.canopyrail.specs.Lent.{textRoom, strung, lentLength, Holds, heldValue, WritesLent, roomy, readAnswer, Reads}
 use Rattle.canopyrail.proofs.CallLaws.{refusal-told}
 
 -- LENT MEMORY FILLED: the first i places are put, and the rest is as it was
@@ -51,11 +52,11 @@ module _ {A : Type 0} (g : ℕ → A) (before : List A) where
   pub putting-end : {out : List A} {i n : ℕ} → i ≡ n → Putting g before out i → out ≡ row g n ++ drop n before
   putting-end {out} {i} {n} e p = sym (take-append-drop i out) ∙ ap₂ (λ (a b : List A). a ++ b) (p .put) (p .rest) ∙ ap (λ (m : ℕ). row g m ++ drop m before) e
 
--- TEXTS of sixty bytes, one after the other
+-- TEXTS as long as the widest field, one after the other
 pub record Stringing (g : ℕ → List ℕ) (before out : List ℕ) (i : ℕ) : Type 0 where
   pub long : length out ≡ length before
-  pub put : take (60 * i) out ≡ strung g i
-  pub rest : drop (60 * i) out ≡ drop (60 * i) before
+  pub put : take (widest * i) out ≡ strung g i
+  pub rest : drop (widest * i) out ≡ drop (widest * i) before
 
 module _ (g : ℕ → List ℕ) (before : List ℕ) where
   pub stringing-start : Stringing g before before 0
@@ -63,37 +64,37 @@ module _ (g : ℕ → List ℕ) (before : List ℕ) where
   stringing-start = record { long = refl; put = refl; rest = refl }
 
   pub stringing-more :
-      {out ys : List ℕ} {i : ℕ} → 60 * i + 60 ≤ length before → Stringing g before out i → length ys ≡ length (midOf (60 * i) (60 * i + 60 - 60 * i) out)
-      → ys ≡ g i → Stringing g before (putMid (60 * i) (60 * i + 60 - 60 * i) out ys) (i + 1)
+      {out ys : List ℕ} {i : ℕ} → widest * i + widest ≤ length before → Stringing g before out i → length ys ≡ length (midOf (widest * i) (widest * i + widest - widest * i) out)
+      → ys ≡ g i → Stringing g before (putMid (widest * i) (widest * i + widest - widest * i) out ys) (i + 1)
   unfolding strung
   stringing-more {out} {ys} {i} l p e h =
-      let w : length ys ≡ 60 = e ∙ mid-len (60 * i) (60 * i + 60) out (omega (arith, p .long)) ∙ omega arith in
-      let q : 60 * (i + 1) ≡ 60 * i + 60 = omega arith in
-      let tail = drop (60 * i + 60 - 60 * i) (drop (60 * i) out) in
-      let wide : length (take (60 * i) out ++ ys) ≡ 60 * i + 60 = simp (length-append, length-take-le (60 * i) out (omega (arith, p .long))) (omega arith) in
+      let w : length ys ≡ widest = e ∙ mid-len (widest * i) (widest * i + widest) out (omega (arith, p .long)) ∙ omega arith in
+      let q : widest * (i + 1) ≡ widest * i + widest = omega arith in
+      let tail = drop (widest * i + widest - widest * i) (drop (widest * i) out) in
+      let wide : length (take (widest * i) out ++ ys) ≡ widest * i + widest = simp (length-append, length-take-le (widest * i) out (omega (arith, p .long))) (omega arith) in
       record {
-        long = same-len-mid (60 * i) (60 * i + 60 - 60 * i) out ys e ∙ p .long;
+        long = same-len-mid (widest * i) (widest * i + widest - widest * i) out ys e ∙ p .long;
         put =
             rw q
-            (ap (take (60 * i + 60)) (sym (append-assoc (take (60 * i) out) ys tail)) ∙ take-at (take (60 * i) out ++ ys) tail (60 * i + 60) wide
+            (ap (take (widest * i + widest)) (sym (append-assoc (take (widest * i) out) ys tail)) ∙ take-at (take (widest * i) out ++ ys) tail (widest * i + widest) wide
             ∙ rw add-one (ap₂ (λ (a b : List ℕ). a ++ b) (p .put) h));
-        rest = rw q (drop-put (60 * i) (60 * i + 60) out ys (omega arith) (omega (arith, p .long)) (w ∙ omega arith) ∙ sym (drop-drop 60 (60 * i) out) ∙ ap (drop 60) (p .rest) ∙ drop-drop 60 (60 * i) before);
+        rest = rw q (drop-put (widest * i) (widest * i + widest) out ys (omega arith) (omega (arith, p .long)) (w ∙ omega arith) ∙ sym (drop-drop widest (widest * i) out) ∙ ap (drop widest) (p .rest) ∙ drop-drop widest (widest * i) before);
       }
 
-  pub stringing-end : {out : List ℕ} {i n : ℕ} → i ≡ n → Stringing g before out i → out ≡ strung g n ++ drop (60 * n) before
-  stringing-end {out} {i} {n} e p = sym (take-append-drop (60 * i) out) ∙ ap₂ (λ (a b : List ℕ). a ++ b) (p .put) (p .rest) ∙ ap (λ (m : ℕ). strung g m ++ drop (60 * m) before) e
+  pub stringing-end : {out : List ℕ} {i n : ℕ} → i ≡ n → Stringing g before out i → out ≡ strung g n ++ drop (widest * n) before
+  stringing-end {out} {i} {n} e p = sym (take-append-drop (widest * i) out) ∙ ap₂ (λ (a b : List ℕ). a ++ b) (p .put) (p .rest) ∙ ap (λ (m : ℕ). strung g m ++ drop (widest * m) before) e
 
 -- THE FOUR of a record's values, field by field
 pub record Storing (v : Values) (n₀ : List ℕ) (c₀ : List ℤ) (l₀ t₀ : List ℕ) (n : List ℕ) (c : List ℤ) (l t : List ℕ) (i : ℕ) : Type 0 where
-  pub within : i ≤ 14
-  pub room : (14 ≤ length n₀) × (14 ≤ length c₀) × (14 ≤ length l₀) × (840 ≤ length t₀)
+  pub within : i ≤ mostFields
+  pub room : (mostFields ≤ length n₀) × (mostFields ≤ length c₀) × (mostFields ≤ length l₀) × (textRoom ≤ length t₀)
   pub numbers : Putting (λ j. valueAt v (j + 1) .number) n₀ n i
   pub coordinates : Putting (λ j. valueAt v (j + 1) .coordinate) c₀ c i
   pub lengths : Putting (λ j. lentLength (valueAt v (j + 1))) l₀ l i
-  pub texts : Stringing (λ j. padded 60 (firstBytes 60 (valueAt v (j + 1) .text))) t₀ t i
+  pub texts : Stringing (λ j. padded widest (firstBytes widest (valueAt v (j + 1) .text))) t₀ t i
 
 module _ (v : Values) (n₀ : List ℕ) (c₀ : List ℤ) (l₀ t₀ : List ℕ) where
-  pub storing-start : (14 ≤ length n₀) × (14 ≤ length c₀) × (14 ≤ length l₀) × (840 ≤ length t₀) → Storing v n₀ c₀ l₀ t₀ n₀ c₀ l₀ t₀ 0
+  pub storing-start : (mostFields ≤ length n₀) × (mostFields ≤ length c₀) × (mostFields ≤ length l₀) × (textRoom ≤ length t₀) → Storing v n₀ c₀ l₀ t₀ n₀ c₀ l₀ t₀ 0
   storing-start room =
       record {
         within = omega arith;
@@ -105,24 +106,24 @@ module _ (v : Values) (n₀ : List ℕ) (c₀ : List ℤ) (l₀ t₀ : List ℕ)
       }
 
   pub storing-more :
-      {n : List ℕ} {c : List ℤ} {l t ys : List ℕ} {i len : ℕ} {x : Value} {z : ℤ} → Storing v n₀ c₀ l₀ t₀ n c l t i → i < 14 → x ≡ valueAt v (i + 1) → z ≡ x .coordinate → len ≡ lentLength x
-      → length ys ≡ length (midOf (60 * i) (60 * i + 60 - 60 * i) t) → ys ≡ padded (length (midOf (60 * i) (60 * i + 60 - 60 * i) t)) (firstBytes 60 (x .text))
-      → Storing v n₀ c₀ l₀ t₀ (set n i (x .number)) (set c i z) (set l i len) (putMid (60 * i) (60 * i + 60 - 60 * i) t ys) (i + 1)
+      {n : List ℕ} {c : List ℤ} {l t ys : List ℕ} {i len : ℕ} {x : Value} {z : ℤ} → Storing v n₀ c₀ l₀ t₀ n c l t i → i < mostFields → x ≡ valueAt v (i + 1) → z ≡ x .coordinate → len ≡ lentLength x
+      → length ys ≡ length (midOf (widest * i) (widest * i + widest - widest * i) t) → ys ≡ padded (length (midOf (widest * i) (widest * i + widest - widest * i) t)) (firstBytes widest (x .text))
+      → Storing v n₀ c₀ l₀ t₀ (set n i (x .number)) (set c i z) (set l i len) (putMid (widest * i) (widest * i + widest - widest * i) t ys) (i + 1)
   storing-more {t = t} {ys} {i} {x = x} s h e ez el ey eq =
-      let w : length (midOf (60 * i) (60 * i + 60 - 60 * i) t) ≡ 60 = mid-len (60 * i) (60 * i + 60) t (omega (arith, s .texts .long, s .room)) ∙ omega arith in
+      let w : length (midOf (widest * i) (widest * i + widest - widest * i) t) ≡ widest = mid-len (widest * i) (widest * i + widest) t (omega (arith, s .texts .long, s .room)) ∙ omega arith in
       record {
         within = omega arith;
         room = s .room;
         numbers = putting-more _ n₀ (omega (arith, s .room)) (s .numbers) (ap (λ (y : Value). y .number) e);
         coordinates = putting-more _ c₀ (omega (arith, s .room)) (s .coordinates) (ez ∙ ap (λ (y : Value). y .coordinate) e);
         lengths = putting-more _ l₀ (omega (arith, s .room)) (s .lengths) (el ∙ ap lentLength e);
-        texts = stringing-more _ t₀ (omega (arith, s .room)) (s .texts) ey (eq ∙ ap₂ (λ (m : ℕ) (y : Value). padded m (firstBytes 60 (y .text))) w e);
+        texts = stringing-more _ t₀ (omega (arith, s .room)) (s .texts) ey (eq ∙ ap₂ (λ (m : ℕ) (y : Value). padded m (firstBytes widest (y .text))) w e);
       }
 
   pub storing-end :
-      {n : List ℕ} {c : List ℤ} {l t : List ℕ} {i : ℕ} → Storing v n₀ c₀ l₀ t₀ n c l t i → 14 ≤ i → Holds v n₀ c₀ l₀ t₀ n c l t
+      {n : List ℕ} {c : List ℤ} {l t : List ℕ} {i : ℕ} → Storing v n₀ c₀ l₀ t₀ n c l t i → mostFields ≤ i → Holds v n₀ c₀ l₀ t₀ n c l t
   storing-end {i = i} s h =
-      let e : i ≡ 14 = omega (arith, s .within) in
+      let e : i ≡ mostFields = omega (arith, s .within) in
       record {
         theNumbers = putting-end _ n₀ e (s .numbers);
         theCoordinates = putting-end _ c₀ e (s .coordinates);
@@ -133,12 +134,12 @@ module _ (v : Values) (n₀ : List ℕ) (c₀ : List ℤ) (l₀ t₀ : List ℕ)
 -- A VALUE TAKEN from lent memory
 pub value-lent :
     (numbers : List ℕ) (coordinates : List ℤ) (lengths texts : List ℕ) (i : ℕ) {len number : ℕ} {coordinate : ℤ} {t text : List ℕ}
-    → len ≡ getD lengths i 0 → number ≡ getD numbers i 0 → coordinate ≡ getD coordinates i (pos 0) → t ≡ take 60 (drop (60 * i) texts) → text ≡ padded 60 (firstBytes (length t) t)
+    → len ≡ getD lengths i 0 → number ≡ getD numbers i 0 → coordinate ≡ getD coordinates i (pos 0) → t ≡ take widest (drop (widest * i) texts) → text ≡ padded widest (firstBytes (length t) t)
     → record { given = not (eqb len 0); number = number; coordinate = coordinate; len = len; text = text } ≡ heldValue numbers coordinates lengths texts i
 unfolding heldValue
 value-lent numbers coordinates lengths texts i {len} {number} {coordinate} {t} {text} el en ec et ex =
     let f : firstBytes (length t) t ≡ t = first-bytes-le (length t) t (omega arith) ∙ take-length t in
-    let x : text ≡ padded 60 (take 60 (drop (60 * i) texts)) = ex ∙ rw f (ap (padded 60) et) in
+    let x : text ≡ padded widest (take widest (drop (widest * i) texts)) = ex ∙ rw f (ap (padded widest) et) in
     rw (el, en, ec, x)
 
 -- A RECORD WRITTEN from lent values
@@ -146,13 +147,13 @@ pub lent-writes : {file r : ℕ} {u v : Values} {room after : List ℕ} {a : Ans
 lent-writes {file} {room = room} {after} {a} e h w = record { answer = a; says = e; writes = subst (λ (x : Values). Writes file x room a after) h w }
 
 -- A RECORD READ into lent memory
-pub roomy-says : (a b c d : ℕ) → roomy a b c d ≡ true → (14 ≤ a) × (14 ≤ b) × (14 ≤ c) × (840 ≤ d)
+pub roomy-says : (a b c d : ℕ) → roomy a b c d ≡ true → (mostFields ≤ a) × (mostFields ≤ b) × (mostFields ≤ c) × (textRoom ≤ d)
 unfolding roomy
 roomy-says a b c d e =
-    let p = and-true (not (ltb a 14) && not (ltb b 14) && not (ltb c 14)) (not (ltb d 840)) e in
-    let q = and-true (not (ltb a 14) && not (ltb b 14)) (not (ltb c 14)) (p .0) in
-    let r = and-true (not (ltb a 14)) (not (ltb b 14)) (q .0) in
-    (not-below a 14 (r .0), not-below b 14 (r .1), not-below c 14 (q .1), not-below d 840 (p .1))
+    let p = and-true (not (ltb a mostFields) && not (ltb b mostFields) && not (ltb c mostFields)) (not (ltb d textRoom)) e in
+    let q = and-true (not (ltb a mostFields) && not (ltb b mostFields)) (not (ltb c mostFields)) (p .0) in
+    let r = and-true (not (ltb a mostFields)) (not (ltb b mostFields)) (q .0) in
+    (not-below a mostFields (r .0), not-below b mostFields (r .1), not-below c mostFields (q .1), not-below d textRoom (p .1))
   where
     not-below : (x y : ℕ) → not (ltb x y) ≡ true → y ≤ x
     not-below x y h = ltb-false x y (not-true (ltb x y) h)

@@ -1,5 +1,6 @@
 -- The values of one record in lent memory, and the two calls on them: of each field, up to the most that a record has, a number, a
--- coordinate, a length and a text of the widest field's bytes. A field whose length is 0 is missing; of a number or a coordinate any other length says that it is given.
+-- coordinate, a length and a text of the widest field's bytes. A field whose length is 0 is missing; of a number or a coordinate any
+-- other length says that it is given.
 -- Assumes nothing.
 use Prim.Native.Nat.{ℕ, zero, suc, _+_, _*_}
 use mathlib.Core.Bool.{Bool, true, false, not, _&&_}
@@ -72,7 +73,7 @@ pub record Holds (v : Values) (numbers : List ℕ) (coordinates : List ℤ) (len
   pub theTexts : texts' ≡ lentTexts v ++ drop textRoom texts
 
 -- READING
--- room for fourteen of each, and for their texts
+-- room for as many of each, and for their texts
 unfoldable pub roomy : ℕ → ℕ → ℕ → ℕ → Bool
 roomy numbers coordinates lengths texts =
     not (ltb numbers mostFields) && not (ltb coordinates mostFields) && not (ltb lengths mostFields) && not (ltb texts textRoom)
