@@ -143,7 +143,7 @@ impl Kind {
         }
     }
 
-    // The key is the first of so many fields.
+    // Of how many fields, the first ones, its key is made.
     pub fn keys(self) -> usize
         ensures { λ r. ⌜ r ≡ keysOf self ⌝ }
     {
