@@ -1,15 +1,15 @@
 -- What a line holds once its words are put one after another (specs/Line.antt): each law says what is left to write.
 -- Assumes nothing.
-use Prim.Native.Nat.{ℕ, suc, _+_, _-_, _*_, _<_, _≤_}
+use Prim.Native.Nat.{ℕ, zero, suc, _+_, _-_, _*_, _<_, _≤_}
 use mathlib.Core.Bool.{Bool, true, false}
 use mathlib.Core.List.{List, [], _∷_, _++_, append-assoc}
 use mathlib.Core.Option.{none}
-use mathlib.Core.Path.{_≡_, refl, sym, ap, _∙_}
-use native.Mathlib.Numerals.{add-one}
+use mathlib.Core.Path.{_≡_, refl, sym, ap, subst, _∙_}
+use native.Mathlib.Numerals.{add-one, unary-clauses}
 use native.Mathlib.Omega.{arith}
-use lib.ListN.{length, take, drop, set, getD, length-set, length-append, length-take, drop-of-length-le}
-use lib.Seq.{take-at, take-suc-set, drop-cons}
-use borrow.Rule.Slice.PartMut.{putMid, midOf, same-len-mid, mid-len}
+use lib.ListN.{length, take, drop, set, getD, replicate, length-set, length-append, length-take, drop-of-length-le}
+use lib.Seq.{take-at, take-suc-set, drop-cons, drop-drop, drop-set-lt, set-split}
+use borrow.Rule.Slice.PartMut.{putMid, midOf, same-len-mid, mid-len, drop-put}
 use borrow.Author.Tests.{eq-eqb, ne-eqb}
 use Rattle.laws.specs.Find.{firstIndex}
 use Rattle.laws.proofs.FindLaws.{index-start, index-more, index-here, index-end}
@@ -23,7 +23,7 @@ use Rattle.record.specs.Breaks.{numberOf}
 use Rattle.keys.specs.Rules.{orFirst}
 use Rattle.judge.specs.declared.judge.Verdict.{Verdict}
 use Rattle.judge.specs.Verdict.{verdictOf}
-use Rattle.judge.specs.Line.{countWords, breakLine, lineOf, isBig, bigOf, bigLine, programLine}
+use Rattle.judge.specs.Line.{countWords, breakLine, lineOf, isBig, bigOf, bigLine, programLine, lineRoom, lineIn}
 
 -- A WORD: a blank at a place, and a number's digits put behind it
 module _ (at w : ℕ) (buf : List ℕ) (h : at + w < length buf) where
@@ -47,23 +47,65 @@ module _ (at w : ℕ) (buf : List ℕ) (h : at + w < length buf) where
         ∙ append-assoc (take at buf) (32 ∷ []) ys
         ∙ ap (λ (s : List ℕ). take at buf ++ (32 ∷ s)) (e ∙ ap (λ (m : ℕ). digits m n) word-room)
 
--- A LINE: a word is put, and what is left is shorter by it;
-word-more : (whole left : List ℕ) (w n at at' : ℕ) (buf buf' : List ℕ)
-    → take at buf ++ (32 ∷ (digits w n ++ left)) ≡ whole → take at' buf' ≡ take at buf ++ (32 ∷ digits w n) → take at' buf' ++ left ≡ whole
-word-more whole left w n at at' buf buf' h e =
-    ap (λ (s : List ℕ). s ++ left) e ∙ append-assoc (take at buf) (32 ∷ digits w n) left ∙ h
+    pub word-rest : drop (at + 1 + w) (putMid (at + 1) (at + 1 + w - (at + 1)) (set buf at 32) ys) ≡ drop (at + 1 + w) buf
+    word-rest =
+        drop-put (at + 1) (at + 1 + w) (set buf at 32) ys (omega arith) (rw length-set (omega arith)) (l ∙ word-room ∙ omega arith)
+        ∙ drop-set-lt (at + 1 + w) buf at 32 (omega arith)
+
+-- A LINE, written up to a place: what is left is to come there, and the bytes from there on are 0 yet
+pub record Written (whole left buf : List ℕ) (at : ℕ) : Type 0 where
+  pub room : length buf ≡ lineRoom
+  pub written : take at buf ++ left ≡ whole
+  pub rest : drop at buf ≡ drop at (replicate lineRoom 0)
+
+-- a word is put, and what is left is shorter by it;
+pub word-more : (w n : ℕ) (left : List ℕ) {whole buf : List ℕ} {at at' : ℕ} {buf' : List ℕ} → Written whole (32 ∷ (digits w n ++ left)) buf at → length buf' ≡ length buf
+    → (at' ≡ at + w + 1) × (take at' buf' ≡ take at buf ++ (32 ∷ digits w n)) × (drop at' buf' ≡ drop at' buf) → Written whole left buf' at'
+word-more w n left {buf = buf} {at = at} {at' = at'} h l p =
+    let zeros : List ℕ = replicate lineRoom 0 in
+    let e : at' ≡ at + (w + 1) = omega (arith, p .0) in
+    record {
+      room = l ∙ h .room;
+      written = ap (λ (s : List ℕ). s ++ left) (p .1) ∙ append-assoc (take at buf) (32 ∷ digits w n) left ∙ h .written;
+      rest =
+          p .2
+          ∙ ap (λ (m : ℕ). drop m buf) e
+          ∙ sym (drop-drop (w + 1) at buf)
+          ∙ ap (drop (w + 1)) (h .rest)
+          ∙ drop-drop (w + 1) at zeros
+          ∙ ap (λ (m : ℕ). drop m zeros) (sym e);
+    }
 
 -- the line feed ends it
-line-end : (whole : List ℕ) (at : ℕ) (buf : List ℕ) → at < length buf → take at buf ++ (10 ∷ []) ≡ whole → take (suc at) (set buf at 10) ≡ whole
-line-end whole at buf l h = take-suc-set buf at 10 l ∙ h
+drop-replicate : (m n x : ℕ) → drop m (replicate n x) ≡ replicate (n - m) x
+drop-replicate zero n x = simp unary-clauses refl
+drop-replicate (suc m) zero x = let none : 0 ≡ 0 - suc m = omega arith in ap (λ (k : ℕ). replicate k x) none
+drop-replicate (suc m) (suc n) x = simp unary-clauses (drop-replicate m n x)
+
+pub line-end : {whole buf : List ℕ} {at : ℕ} (n : ℕ) → Written whole (10 ∷ []) buf at → n ≡ suc at → at < lineRoom → record { len = n; bytes = set buf at 10 } ≡ lineIn whole
+unfolding lineIn
+line-end {whole = whole} {buf = buf} {at = at} n h e l =
+    let long : length whole ≡ suc at = ap length (sym (h .written)) ∙ simp (length-append, length-take, h .room) (omega arith) in
+    let rest : drop (suc at) buf ≡ replicate (lineRoom - suc at) 0 =
+    ap (λ (m : ℕ). drop m buf) (sym (add-one at))
+    ∙ sym (drop-drop 1 at buf)
+    ∙ ap (drop 1) (h .rest)
+    ∙ drop-drop 1 at (replicate lineRoom 0)
+    ∙ ap (λ (m : ℕ). drop m (replicate lineRoom 0)) (add-one at)
+    ∙ drop-replicate (suc at) lineRoom 0 in
+    let bytes : set buf at 10 ≡ whole ++ replicate (lineRoom - suc at) 0 =
+    set-split buf at 10 (omega (arith, h .room))
+    ∙ ap (λ (s : List ℕ). take at buf ++ (10 ∷ s)) rest
+    ∙ sym (append-assoc (take at buf) (10 ∷ []) (replicate (lineRoom - suc at) 0))
+    ∙ ap (λ (s : List ℕ). s ++ replicate (lineRoom - suc at) 0) (h .written) in
+    rw (long, e, bytes)
 
 -- COUNTS: i of seven are put
 pub record Counting (counts bytes : List ℕ) (at i : ℕ) : Type 0 where
   pub few : i ≤ fileCount
   pub seven : length counts ≡ fileCount
-  pub room : length bytes ≡ 45
   pub place : at ≡ 2 + 6 * i
-  pub written : take at bytes ++ countWords (drop i counts) ≡ 79 ∷ 75 ∷ countWords counts
+  pub so-far : Written (79 ∷ 75 ∷ countWords counts) (countWords (drop i counts)) bytes at
 
 next-count : (counts : List ℕ) (i : ℕ) → i < length counts
     → countWords (drop i counts) ≡ 32 ∷ (digits 5 (getD counts i 0) ++ countWords (drop (i + 1) counts))
@@ -75,36 +117,34 @@ unfolding countWords
 no-count counts i h = rw (drop-of-length-le counts {i = i} h) refl
 
 module _ {counts bytes : List ℕ} {at i : ℕ} (h : Counting counts bytes at i) where
-  pub counting-more : (at' : ℕ) (bytes' : List ℕ) → i < fileCount → length bytes' ≡ length bytes → at' ≡ at + 5 + 1
-      → take at' bytes' ≡ take at bytes ++ (32 ∷ digits 5 (getD counts i 0)) → Counting counts bytes' at' (i + 1)
-  counting-more at' bytes' l n p e =
+  at-left : (left : List ℕ) → countWords (drop i counts) ≡ left → Written (79 ∷ 75 ∷ countWords counts) left bytes at
+  at-left left e = subst (λ (s : List ℕ). Written (79 ∷ 75 ∷ countWords counts) s bytes at) e (h .so-far)
+
+  pub counting-more : {at' : ℕ} {bytes' : List ℕ} → i < fileCount → length bytes' ≡ length bytes
+      → (at' ≡ at + 5 + 1) × (take at' bytes' ≡ take at bytes ++ (32 ∷ digits 5 (getD counts i 0))) × (drop at' bytes' ≡ drop at' bytes) → Counting counts bytes' at' (i + 1)
+  counting-more l n p =
       record {
         few = omega arith;
         seven = h .seven;
-        room = n ∙ h .room;
-        place = omega (arith, h .place);
-        written =
-            word-more _ (countWords (drop (i + 1) counts)) 5 (getD counts i 0) at at' bytes bytes'
-            (ap (λ (s : List ℕ). take at bytes ++ s) (sym (next-count counts i (omega (arith, h .seven)))) ∙ h .written) e;
+        place = omega (arith, h .place, p .0);
+        so-far = word-more 5 _ _ (at-left _ (next-count counts i (omega (arith, h .seven)))) n p;
       }
 
-  pub counting-end : fileCount ≤ i → take 45 (set bytes at 10) ≡ 79 ∷ 75 ∷ countWords counts
+  pub counting-end : fileCount ≤ i → record { len = lineRoom; bytes = set bytes at 10 } ≡ lineIn (79 ∷ 75 ∷ countWords counts)
   counting-end l =
       let p : at ≡ 44 = omega (arith, h .few, h .place) in
-      ap (λ (n : ℕ). take (suc n) (set bytes at 10)) (sym p)
-      ∙ line-end _ at bytes (omega (arith, h .room)) (ap (λ (s : List ℕ). take at bytes ++ s) (sym (no-count counts i (omega (arith, h .seven)))) ∙ h .written)
+      line-end lineRoom (at-left _ (no-count counts i (omega (arith, h .seven)))) (omega (arith, p)) (omega (arith, p))
 
--- A BREAK: four words are put
-pub break-put : (b : Break) (n : ℕ) (a₁ a₂ a₃ a₄ : ℕ) (s₁ s₂ s₃ s₄ : List ℕ) → n ≡ numberOf (b .reason)
-    → take a₁ s₁ ≡ 78 ∷ 79 ∷ 32 ∷ digits 2 n
-    → take a₂ s₂ ≡ take a₁ s₁ ++ (32 ∷ digits 1 (b .file))
-    → take a₃ s₃ ≡ take a₂ s₂ ++ (32 ∷ digits 5 (b .«record»))
-    → take a₄ s₄ ≡ take a₃ s₃ ++ (32 ∷ digits 2 (b .field))
-    → a₄ ≡ 16 → a₄ < length s₄ → take 17 (set s₄ a₄ 10) ≡ breakLine b
-break-put b n a₁ a₂ a₃ a₄ s₁ s₂ s₃ s₄ e p₁ p₂ p₃ p₄ q l =
-    ap (λ (m : ℕ). take (suc m) (set s₄ a₄ 10)) (sym q)
-    ∙ line-end _ a₄ s₄ l
-    (word-more _ _ 2 _ a₃ a₄ s₃ s₄ (word-more _ _ 5 _ a₂ a₃ s₂ s₃ (word-more _ _ 1 _ a₁ a₂ s₁ s₂ (word-more _ _ 2 n 2 a₁ (78 ∷ 79 ∷ []) s₁ (rw e) p₁) p₂) p₃) p₄)
+-- A BREAK: four words are to come, the first of them the reason's number
+pub break-start : (b : Break) (n : ℕ) → n ≡ numberOf (b .reason)
+    → Written (breakLine b)
+    (32 ∷ (digits 2 n ++ 32 ∷ (digits 1 (b .file) ++ 32 ∷ (digits 5 (b .«record») ++ 32 ∷ (digits 2 (b .field) ++ 10 ∷ [])))))
+    (78 ∷ 79 ∷ replicate 43 0) 2
+break-start b n e = record { room = refl; written = rw e; rest = refl }
+
+-- BIG: one word is to come
+pub big-line-start : (file : ℕ) → Written (bigLine file) (32 ∷ (digits 1 file ++ 10 ∷ [])) (66 ∷ 73 ∷ 71 ∷ replicate 42 0) 3
+big-line-start file = record { room = refl; written = refl; rest = refl }
 
 -- THE LINE of a verdict, by its finding
 module _ (v : Verdict) (s : List ℕ) where
@@ -144,12 +184,6 @@ module _ {files : Files} {n : ℕ} (s : NoneBig files n) where
 
     pub big-more : r ≡ false → NoneBig files (n + 1)
     big-more y = record { within = omega arith; past = index-more _ (s .past) (sym big-turn ∙ y) }
-
-pub big-put : (file at : ℕ) (bytes : List ℕ) → take at bytes ≡ 66 ∷ 73 ∷ 71 ∷ 32 ∷ digits 1 file → at ≡ 5 → at < length bytes
-    → take 6 (set bytes at 10) ≡ bigLine file
-big-put file at bytes e q l =
-    ap (λ (m : ℕ). take (suc m) (set bytes at 10)) (sym q)
-    ∙ line-end _ at bytes l (word-more _ _ 1 file 3 at (66 ∷ 73 ∷ 71 ∷ []) bytes refl e)
 
 -- THE PROGRAM'S LINE, by the number of the first big file
 module _ (files : Files) {big : ℕ} {s : List ℕ} (e : big ≡ bigOf files) where

@@ -1,10 +1,10 @@
 -- The verdict program's line (document 01, "The verdict program"): `OK` and the counts, `NO` and the break, or `BIG` and the file.
 -- Assumes nothing.
-use Prim.Native.Nat.{ℕ, _+_}
+use Prim.Native.Nat.{ℕ, _+_, _-_}
 use mathlib.Core.Bool.{Bool, false}
 use mathlib.Core.List.{List, [], _∷_, _++_}
 use lib.Dec.{ltb, eqb}
-use lib.ListN.{length}
+use lib.ListN.{length, replicate}
 use Rattle.laws.specs.Find.{firstIndex}
 use Rattle.laws.specs.Row.{pick}
 use Rattle.field.specs.Digits.{digits}
@@ -18,6 +18,7 @@ use Rattle.record.specs.Files.{Files}
 use Rattle.record.specs.Breaks.{numberOf}
 use Rattle.keys.specs.Rules.{orFirst}
 use Rattle.judge.specs.declared.judge.Verdict.{Verdict}
+use Rattle.judge.specs.declared.line.Line.{Line}
 use Rattle.judge.specs.Verdict.{verdictOf}
 
 -- each count after a blank, in five digits
@@ -58,3 +59,10 @@ bigLine file = 66 ∷ 73 ∷ 71 ∷ 32 ∷ (digits 1 file ++ 10 ∷ [])
 -- THE LINE that the program prints: BIG goes before everything
 unfoldable pub programLine : Files → List ℕ
 programLine files = pick (eqb (bigOf files) 0) (lineOf (verdictOf files)) (bigLine (bigOf files))
+
+-- a line in the hand of the program: its length, and its bytes at the start of an array, in which those past it are 0
+abbrev pub lineRoom : ℕ
+lineRoom = 45
+
+unfoldable pub lineIn : List ℕ → Line
+lineIn s = record { len = length s; bytes = s ++ replicate (lineRoom - length s) 0 }

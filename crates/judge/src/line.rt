@@ -10,25 +10,25 @@ use record::reason::Break;
 use record::reason::Finding;
 ghost use mathlib.Core.Path.{_≡_};
 ghost use mathlib.Core.List.{List, _++_, _∷_, [], map};
-ghost use Prim.Native.Nat.{ℕ, _+_, _≤_, _<_};
+ghost use Prim.Native.Nat.{ℕ, _+_, _<_};
 ghost use lib.ListN.{length, take, drop};
 ghost use Rattle.record.specs.Files.{filesOf};
-ghost use Rattle.judge.specs.Line.{countWords, breakLine, lineOf, isBig, bigOf, bigLine, programLine};
+ghost use Rattle.judge.specs.Line.{countWords, breakLine, lineOf, isBig, bigOf, bigLine, programLine, lineIn};
 ghost use Rattle.field.specs.Digits.{digits};
 
 // The program takes no file of more bytes.
 pub const BIG: usize = 8192;
 
-// A line of up to 45 bytes, its line feed among them.
+// A line of up to 45 bytes, its line feed among them; what lies past it is 0.
 pub struct Line {
     pub len: usize,
     pub bytes: [u8; 45],
 }
 
-// Puts n in w digits at a place, after a blank: what stood before it stays.
+// Puts n in w digits at a place, after a blank: what stood before it and past it stays.
 fn put_word(buf: &mut [u8], at: usize, w: usize, n: usize) -> usize
     requires { ⌜ at + w < length (now buf) ⌝ }
-    ensures { λ r. ⌜ (r ≡ at + w + 1) × (take r (now (buf .exit)) ≡ take at (now (buf .entry)) ++ (32 ∷ digits w n)) ⌝ }
+    ensures { λ r. ⌜ (r ≡ at + w + 1) × (take r (now (buf .exit)) ≡ take at (now (buf .entry)) ++ (32 ∷ digits w n)) × (drop r (now (buf .exit)) ≡ drop r (now (buf .entry))) ⌝ }
 {
     buf[at] = 32;
     let from = at + 1;
@@ -38,8 +38,7 @@ fn put_word(buf: &mut [u8], at: usize, w: usize, n: usize) -> usize
 }
 
 fn count_line(counts: [usize; FILES]) -> Line
-    ensures { λ r. ⌜ take (r .len) (r .bytes) ≡ 79 ∷ 75 ∷ countWords counts ⌝ }
-    ensures long { λ r. ⌜ r .len ≡ 45 ⌝ }
+    ensures { λ r. ⌜ r ≡ lineIn (79 ∷ 75 ∷ countWords counts) ⌝ }
 {
     let mut bytes = [0u8; 45];
     bytes[0] = 79;
@@ -55,8 +54,7 @@ fn count_line(counts: [usize; FILES]) -> Line
 }
 
 fn break_line(b: Break) -> Line
-    ensures { λ r. ⌜ take (r .len) (r .bytes) ≡ breakLine b ⌝ }
-    ensures long { λ r. ⌜ r .len ≡ 17 ⌝ }
+    ensures { λ r. ⌜ r ≡ lineIn (breakLine b) ⌝ }
 {
     let reason = b.reason;
     let mut bytes = [0u8; 45];
@@ -72,8 +70,7 @@ fn break_line(b: Break) -> Line
 
 // The line of a verdict.
 pub fn line_of(v: Verdict) -> Line
-    ensures { λ r. ⌜ take (r .len) (r .bytes) ≡ lineOf v ⌝ }
-    ensures within { λ r. ⌜ r .len ≤ 45 ⌝ }
+    ensures { λ r. ⌜ r ≡ lineIn (lineOf v) ⌝ }
 {
     let finding = v.finding;
     let counts = v.counts;
@@ -108,8 +105,7 @@ fn first_big<'a>(files: [&'a [u8]; FILES]) -> usize
 }
 
 fn big_line(file: usize) -> Line
-    ensures { λ r. ⌜ take (r .len) (r .bytes) ≡ bigLine file ⌝ }
-    ensures long { λ r. ⌜ r .len ≡ 6 ⌝ }
+    ensures { λ r. ⌜ r ≡ lineIn (bigLine file) ⌝ }
 {
     let mut bytes = [0u8; 45];
     bytes[0] = 66;
@@ -122,8 +118,7 @@ fn big_line(file: usize) -> Line
 
 // The line that the program prints of seven files, in any state; an absent one is empty.
 pub fn program_line<'a>(files: [&'a [u8]; FILES]) -> Line
-    ensures { λ r. ⌜ take (r .len) (r .bytes) ≡ programLine (filesOf (map now (files .entry))) ⌝ }
-    ensures within { λ r. ⌜ r .len ≤ 45 ⌝ }
+    ensures { λ r. ⌜ r ≡ lineIn (programLine (filesOf (map now (files .entry)))) ⌝ }
 {
     let big = first_big(files);
     if big == 0 {

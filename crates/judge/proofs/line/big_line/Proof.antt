@@ -1,7 +1,6 @@
 -- `judge::line::big_line` meets its contract.
 -- Assumes nothing.
-use mathlib.Core.Path.{refl}
-use Rattle.judge.proofs.LineLaws.{big-put}
+use Rattle.judge.proofs.LineLaws.{big-line-start, word-more, line-end}
 use borrow.Author.Needs.{needs}
 use Rattle.judge.proofs.line.big_line.Statement.{statement}
 use Rattle.judge.proofs.line.big_line.Tie as tie
@@ -26,8 +25,8 @@ array-write-bytes-4 c = search needs
 
 returns : tie.Need-returns
 returns c =
-    let p = c .before in
-    (big-put (p .before .before .args .file) (p .put-word .result) (p .put-word .last .0) (p .put-word .ensures .1) (search needs) (search needs), refl)
+    let w = c .before .put-word in
+    line-end 6 (word-more 1 _ _ (big-line-start (c .before .before .before .args .file)) (w .kept .0) (w .ensures)) (search needs) (search needs)
 
 pub big-line-spec : {M : Type 1} → statement M
 big-line-spec =

@@ -1,7 +1,6 @@
 -- `judge::line::break_line` meets its contract.
 -- Assumes nothing.
-use mathlib.Core.Path.{refl}
-use Rattle.judge.proofs.LineLaws.{break-put}
+use Rattle.judge.proofs.LineLaws.{break-start, word-more, line-end}
 use borrow.Author.Needs.{needs}
 use Rattle.judge.proofs.line.break_line.Statement.{statement}
 use Rattle.judge.proofs.line.break_line.Tie as tie
@@ -50,12 +49,11 @@ returns c =
     let p₄ = c .before in
     let p₃ = p₄ .before .before .before in
     let p₂ = p₃ .before .before .before in
-    let p₁ = p₂ .before .before .before in (
-      break-put (p₁ .before .before .before .args .b) (p₁ .before .number .result) (p₁ .put-word .result) (p₂ .put-word2 .result) (p₃ .put-word3 .result) (p₄ .put-word4 .result)
-          (p₁ .put-word .last .0) (p₂ .put-word2 .last .0) (p₃ .put-word3 .last .0) (p₄ .put-word4 .last .0) (p₁ .before .number .ensures) (p₁ .put-word .ensures .1)
-          (p₂ .put-word2 .ensures .1) (p₃ .put-word3 .ensures .1) (p₄ .put-word4 .ensures .1) (search needs) (search needs),
-      refl,
-    )
+    let p₁ = p₂ .before .before .before in
+    let l₁ = word-more 2 _ _ (break-start (p₁ .before .before .before .args .b) _ (p₁ .before .number .ensures)) (p₁ .put-word .kept .0) (p₁ .put-word .ensures) in
+    let l₂ = word-more 1 _ _ l₁ (p₂ .put-word2 .kept .0) (p₂ .put-word2 .ensures) in
+    let l₃ = word-more 5 _ _ l₂ (p₃ .put-word3 .kept .0) (p₃ .put-word3 .ensures) in
+    line-end 17 (word-more 2 _ _ l₃ (p₄ .put-word4 .kept .0) (p₄ .put-word4 .ensures)) (search needs) (search needs)
 
 pub break-line-spec : {M : Type 1} → statement M
 break-line-spec =

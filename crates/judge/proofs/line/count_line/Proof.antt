@@ -21,7 +21,7 @@ array-write-bytes-2 : tie.Need-array-write-bytes-2 Inv-loop μ-loop
 array-write-bytes-2 c = search needs
 
 loop-holds : tie.Need-loop-holds Inv-loop μ-loop
-loop-holds c = record { few = search needs; seven = search needs; room = search needs; place = search needs; written = refl }
+loop-holds c = record { few = search needs; seven = search needs; place = search needs; so-far = record { room = refl; written = refl; rest = refl } }
 
 slice-aggregate-put-word : tie.Need-slice-aggregate-put-word Inv-loop μ-loop
 slice-aggregate-put-word c = search needs
@@ -45,13 +45,13 @@ loop-again : tie.Need-loop-again Inv-loop μ-loop
 loop-again c =
     let w = c .before .put-word in
     let t = c .before .before .before in
-    counting-more (t .before .loop .inv) (w .result) (w .last .0) (t .loop-test .taken) (w .kept .0) (w .ensures .0) (w .ensures .1)
+    counting-more (t .before .loop .inv) (t .loop-test .taken) (w .kept .0) (w .ensures)
 
 array-write-bytes-3 : tie.Need-array-write-bytes-3 Inv-loop μ-loop
 array-write-bytes-3 c = search needs
 
 returns : tie.Need-returns Inv-loop μ-loop
-returns c = (counting-end (c .before .loop .inv) (c .loop-test .left), refl)
+returns c = counting-end (c .before .loop .inv) (c .loop-test .left)
 
 pub count-line-spec : {M : Type 1} → statement M
 count-line-spec =

@@ -1,5 +1,7 @@
 -- `judge::line::line_of` meets its contract.
 -- Assumes nothing.
+use mathlib.Core.Path.{refl, ap, _∙_}
+use Rattle.judge.specs.Line.{lineIn}
 use Rattle.judge.proofs.LineLaws.{fine-line, broken-line}
 use borrow.Author.Needs.{needs}
 use Rattle.judge.proofs.line.line_of.Statement.{statement}
@@ -18,10 +20,10 @@ break-line-requires : tie.Need-break-line-requires
 break-line-requires c κs = search needs
 
 returns : tie.Need-returns
-returns c = (fine-line (c .before .before .before .before .args .v) _ (c .before .enum-told .given .1) (c .count-line .ensures .0), search needs)
+returns c = c .count-line .ensures ∙ ap lineIn (fine-line (c .before .before .before .before .args .v) _ (c .before .enum-told .given .1) refl)
 
 returns-2 : tie.Need-returns-2
-returns-2 c = (broken-line (c .before .before .before .before .before .args .v) _ _ (c .before .before .finding .given .1) (c .break-line .ensures .0), search needs)
+returns-2 c = c .break-line .ensures ∙ ap lineIn (broken-line (c .before .before .before .before .before .args .v) _ _ (c .before .before .finding .given .1) refl)
 
 pub line-of-spec : {M : Type 1} → statement M
 line-of-spec =

@@ -1,5 +1,7 @@
 -- `judge::line::program_line` meets its contract.
 -- Assumes nothing.
+use mathlib.Core.Path.{refl, ap, _∙_}
+use Rattle.judge.specs.Line.{lineIn}
 use Rattle.judge.proofs.LineLaws.{no-big-line, some-big-line}
 use borrow.Author.Needs.{needs}
 use Rattle.judge.proofs.line.program_line.Statement.{statement}
@@ -18,10 +20,12 @@ big-line-requires : tie.Need-big-line-requires
 big-line-requires c κs = search needs
 
 returns : tie.Need-returns
-returns c = (no-big-line _ (c .before .before .before .first-big .ensures) (c .before .before .if1 .taken) (c .before .judge .ensures) (c .line-of .ensures .0), search needs)
+returns c =
+    let e = c .before .before .before .first-big .ensures in
+    c .line-of .ensures ∙ ap lineIn (no-big-line _ e (c .before .before .if1 .taken) (c .before .judge .ensures) refl)
 
 returns-2 : tie.Need-returns-2
-returns-2 c = (some-big-line _ (c .before .before .first-big .ensures) (c .before .if1 .left) (c .big-line .ensures .0), search needs)
+returns-2 c = c .big-line .ensures ∙ ap lineIn (some-big-line _ (c .before .before .first-big .ensures) (c .before .if1 .left) refl)
 
 pub program-line-spec : {M : Type 1} → statement M
 program-line-spec =

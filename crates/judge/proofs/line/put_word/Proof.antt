@@ -3,7 +3,7 @@
 use native.Mathlib.Omega.{arith}
 use lib.ListN.{length-set}
 use borrow.Author.Needs.{needs}
-use Rattle.judge.proofs.LineLaws.{word-keeps, word-put}
+use Rattle.judge.proofs.LineLaws.{word-keeps, word-put, word-rest}
 use Rattle.judge.proofs.line.put_word.Statement.{statement}
 use Rattle.judge.proofs.line.put_word.Tie as tie
 
@@ -37,8 +37,11 @@ same-length c =
 returns : tie.Need-returns
 returns c =
     let s = c .before .before .before .before .before in
-    let p = c .before .before .put-number in
-    (omega arith, word-put (s .args .at) (s .args .w) (s .args .buf .now) (s .pre) (p .last .0) (p .kept .0) (s .args .n) (p .ensures))
+    let p = c .before .before .put-number in (
+      omega arith,
+      word-put (s .args .at) (s .args .w) (s .args .buf .now) (s .pre) (p .last .0) (p .kept .0) (s .args .n) (p .ensures),
+      word-rest (s .args .at) (s .args .w) (s .args .buf .now) (s .pre) (p .last .0) (p .kept .0),
+    )
 
 pub put-word-spec : {M : Type 1} → statement M
 put-word-spec =
