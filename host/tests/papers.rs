@@ -1,5 +1,5 @@
 //! The papers say what the library says: docs/FAULT-CARD.md has the words of `explain`, docs/RULES.md the table of files and fields and
-//! every reason. Where one differs, the test prints what should stand there.
+//! every reason, docs/PROMISES.md every promise. Where one differs, the test prints what should stand there.
 
 use canopyrail::names::{self, Form};
 use canopyrail::{Reason, FILES};
@@ -170,5 +170,46 @@ fn papers_say_where_box_and_command_differ() {
         ("the card", CARD, "Judge it on a machine with the command"),
     ] {
         assert!(flowing(page).contains(said), "{name} does not say: {said}");
+    }
+}
+
+const PROMISED: &str = include_str!("../../crates/canopyrail/proofs/Promises.antt");
+const PROMISES: &str = include_str!("../../docs/PROMISES.md");
+
+/// The names that the prover's file gives its promises.
+fn promised() -> Vec<&'static str> {
+    let named = PROMISED
+        .lines()
+        .filter_map(|line| line.strip_prefix("pub "));
+    named.filter_map(|line| line.split(' ').next()).collect()
+}
+
+#[test]
+fn the_page_has_every_promise() {
+    assert!(promised().len() > 40);
+    for name in promised() {
+        assert!(
+            PROMISES.contains(&format!("`{name}`")),
+            "docs/PROMISES.md does not name {name}"
+        );
+    }
+}
+
+const HEADER: &str = include_str!("../../include/canopyrail.h");
+
+/// The calls that the header declares, each without the library's name before it.
+fn calls() -> Vec<&'static str> {
+    let declared = |line: &&str| line.starts_with("uint64_t") || line.starts_with("size_t");
+    let rest = |line: &'static str| line.split("canopyrail_").nth(1);
+    let named = HEADER.lines().filter(declared).filter_map(rest);
+    named.filter_map(|rest| rest.split('(').next()).collect()
+}
+
+#[test]
+fn each_call_is_promised_one_outcome() {
+    assert_eq!(calls().len(), 15, "{:?}", calls());
+    for call in calls() {
+        let name = format!("{call}-once");
+        assert!(promised().contains(&name.as_str()), "there is no {name}");
     }
 }

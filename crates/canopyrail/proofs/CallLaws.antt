@@ -21,6 +21,8 @@ use Rattle.record.specs.declared.reason.Reason.{Reason}
 use Rattle.record.specs.declared.reason.Reason.the-variants as R
 use Rattle.record.specs.declared.reason.Reason.the-variants.{ShortRoom61}
 use Rattle.record.specs.declared.reason.Break.{Break}
+use Rattle.record.specs.declared.reason.Finding.{Finding}
+use Rattle.record.specs.declared.reason.Finding.the-variants.{Fine, Broken}
 use Rattle.record.specs.Files.{filesOf}
 use Rattle.record.specs.Breaks.{numberOf}
 use Rattle.record.proofs.TableLaws.{sane}
@@ -122,6 +124,10 @@ unfolding breakWord answerNumber
 break-told b e =
     let l : 0 < numberOf (b .reason) = ltb-true 0 (numberOf (b .reason)) (numbered (b .reason)) in
     omega arith
+
+pub zero-fine : (v : Finding) → findingWord v ≡ 0 → v ≡ Fine
+zero-fine Fine e = refl
+zero-fine (Broken b) e = absurd (break-told b e)
 
 -- A NUMBER OF A KIND
 pub on-none : (g : Kind → ℕ) (w found : Which) → found ≡ w → found ≡ NoFile → 0 ≡ onFile g w

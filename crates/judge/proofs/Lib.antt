@@ -11,4 +11,3 @@ pub mod Shuffle
 pub mod Writer
 pub mod Exact
 pub mod Cases
-pub mod Promises
