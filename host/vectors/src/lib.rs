@@ -1,11 +1,13 @@
 //! What the proved programs are tested with: deliveries stated by hand and
-//! deliveries that are drawn, and the lines that they should give.
+//! deliveries that are drawn, and the lines that they should give; and what the
+//! calls on one record should answer.
 //!
 //! `cargo run -p vectors --manifest-path host/Cargo.toml` writes them; a test
 //! holds what is stored to what is made here. Nothing of the proved library is
 //! linked: the expected lines are the independent checker's, and where a
 //! delivery is stated by hand, so is its line.
 
+mod calls;
 mod draft;
 mod seeded;
 mod stated;
@@ -34,14 +36,15 @@ pub fn judged() -> Vec<Files> {
     stated.chain(seeded()).collect()
 }
 
-/// The program's standard input and what it should print.
-pub fn vectors() -> [Stored; 2] {
+/// What crates/deliveries reads and should print, and what crates/writes should.
+pub fn vectors() -> [Stored; 3] {
     let all = judged();
     let stdin = all.iter().flat_map(packed).collect();
     let stdout: String = all.iter().map(line).collect();
     [
         ("crates/deliveries/stdin".into(), stdin),
         ("crates/deliveries/stdout".into(), stdout.into_bytes()),
+        ("crates/writes/stdout".into(), calls::calls()),
     ]
 }
 

@@ -1,6 +1,6 @@
-//! Writes crates/deliveries/stdin and stdout, and the folders of samples/. A
-//! sample that was stated by hand has a folder there if one of its name is
-//! there already: make an empty one to add it.
+//! Writes crates/deliveries/stdin and stdout, crates/writes/stdout, and the
+//! folders of samples/. A sample that was stated by hand has a folder there if
+//! one of its name is there already: make an empty one to add it.
 
 use std::path::Path;
 use std::{fs, io};

@@ -1,0 +1,266 @@
+//! What crates/writes should print: the writing call's cases of document 01,
+//! "Single-record calls add", and three of the reading call's, answered by the
+//! independent codec. The program states the same cases in the same order.
+
+use independent::{read, write, Refusal, Value};
+
+/// The room that is filled before each call, and the byte it is filled with.
+const ROOM: usize = 160;
+const FILL: u8 = 0xAA;
+
+type Values = Vec<Value>;
+
+/// A call: the values of one file, and how much of the room is lent.
+struct Case {
+    label: &'static str,
+    file: usize,
+    values: Values,
+    lent: usize,
+    shown: bool,
+}
+
+/// In a room with bytes to spare.
+fn case(label: &'static str, file: usize, values: Values) -> Case {
+    let (lent, shown) = (ROOM, false);
+    Case {
+        label,
+        file,
+        values,
+        lent,
+        shown,
+    }
+}
+
+/// The same, and the record is shown.
+fn show(label: &'static str, file: usize, values: Values) -> Case {
+    let shown = true;
+    Case {
+        shown,
+        ..case(label, file, values)
+    }
+}
+
+/// In a room of so many bytes.
+fn within(lent: usize, case: Case) -> Case {
+    Case { lent, ..case }
+}
+
+fn none() -> Values {
+    vec![Value::Missing; 14]
+}
+
+fn set(mut values: Values, field: usize, value: Value) -> Values {
+    values[field - 1] = value;
+    values
+}
+
+fn number(values: Values, field: usize, n: u64) -> Values {
+    set(values, field, Value::Number(n))
+}
+
+fn coordinate(values: Values, field: usize, z: i64) -> Values {
+    set(values, field, Value::Coordinate(z))
+}
+
+fn text(values: Values, field: usize, text: &[u8]) -> Values {
+    set(values, field, Value::Text(text.to_vec()))
+}
+
+fn no(values: Values, field: usize) -> Values {
+    set(values, field, Value::Missing)
+}
+
+fn node(x: i64, y: i64) -> Values {
+    coordinate(coordinate(number(none(), 1, 1), 4, x), 6, y)
+}
+
+fn nodes() -> Vec<Case> {
+    let plain = || node(100, 200);
+    vec![
+        show("node X 999999999", 7, node(999_999_999, 200)),
+        case("node X 1000000000", 7, node(1_000_000_000, 200)),
+        case("node X least", 7, node(i64::MIN, 200)),
+        show("node Y -9999999999", 7, node(100, -9_999_999_999)),
+        case("node Y -10000000000", 7, node(100, -10_000_000_000)),
+        show("node at zero", 7, coordinate(node(0, 0), 8, 0)),
+        case("node id missing", 7, no(plain(), 1)),
+        show("node id 0", 7, number(plain(), 1, 0)),
+        case("node X missing", 7, no(plain(), 4)),
+        case("node nothing given", 7, none()),
+    ]
+}
+
+fn files() -> Vec<Case> {
+    let plain = || node(100, 200);
+    vec![
+        case("file 0", 0, plain()),
+        case("file 8", 8, plain()),
+        show("file 7", 7, plain()),
+        within(0, case("file 8 room of 0", 8, plain())),
+        within(49, case("room of 49", 7, plain())),
+        within(49, case("room of 49 id missing", 7, no(plain(), 1))),
+        within(50, case("room of 50", 7, plain())),
+        within(60, case("room of 60", 7, plain())),
+    ]
+}
+
+fn line(code: &[u8], name: &[u8]) -> Values {
+    text(text(number(none(), 1, 1), 3, code), 4, name)
+}
+
+fn named(name: &[u8]) -> Values {
+    line(b"0100000", name)
+}
+
+fn names() -> Vec<Case> {
+    let long = b"abcdefghijklmnopqrstuvwxyz0123456789ABCDEFGHIJKLMNOPQRSTUVWXY";
+    vec![
+        case("name of 61", 4, named(long)),
+        show("name of 60", 4, named(&long[..60])),
+        case("name blank first", 4, named(b" A")),
+        case("name blank last", 4, named(b"A ")),
+        case("name of blanks", 4, named(b"  ")),
+        case("name with 7F", 4, named(b"A\x7FB")),
+        show("name with a bar", 4, named(b"A|B")),
+        case("name with A0", 4, named(b"A\xA0B")),
+        show("name missing", 4, named(b"")),
+        show("name NA", 4, named(b"NA")),
+    ]
+}
+
+fn codes() -> Vec<Case> {
+    vec![
+        case("code missing", 4, line(b"", b"a")),
+        case("code NA", 4, line(b"NA", b"a")),
+        case("code ND", 4, line(b"ND", b"a")),
+        show("code na", 4, line(b"na", b"a")),
+    ]
+}
+
+fn centroids() -> Vec<Case> {
+    let x = || coordinate(named(b"a"), 6, 100);
+    vec![
+        case("centroid only Y", 4, coordinate(named(b"a"), 8, 200)),
+        case(
+            "centroid wide Y no X",
+            4,
+            coordinate(named(b"a"), 8, 10_000_000_000),
+        ),
+        case("centroid only Z", 4, coordinate(named(b"a"), 10, 5)),
+        case("centroid X and Z", 4, coordinate(x(), 10, 5)),
+        show("centroid X and Y", 4, coordinate(x(), 8, 200)),
+    ]
+}
+
+fn catalogued(tipo: &[u8]) -> Values {
+    text(text(none(), 1, b"0100001"), 2, tipo)
+}
+
+fn catalogue() -> Vec<Case> {
+    vec![
+        case("catalogue TIPO Q", 1, catalogued(b"Q")),
+        case("catalogue TIPO missing", 1, catalogued(b"")),
+        show("catalogue TIPO T", 1, catalogued(b"T")),
+    ]
+}
+
+fn tramo(sense: &[u8]) -> Values {
+    let values = number(number(none(), 1, 1), 2, 1);
+    let values = number(number(values, 6, 1), 7, 2);
+    text(text(values, 5, b"0100001"), 8, sense)
+}
+
+fn tramos() -> Vec<Case> {
+    vec![
+        case("tramo sense x", 5, tramo(b"x")),
+        show("tramo sense blank", 5, tramo(b"")),
+        show("tramo sense -", 5, tramo(b"-")),
+    ]
+}
+
+fn vertices() -> Vec<Case> {
+    vec![
+        case("vertex order 100000", 6, number(node(100, 200), 2, 100_000)),
+        show("vertex order 99999", 6, number(node(100, 200), 2, 99_999)),
+    ]
+}
+
+fn texts() -> Vec<Case> {
+    let values = text(text(number(none(), 1, 1), 3, b"0100002"), 4, b"a");
+    let values = coordinate(coordinate(number(values, 8, 3), 10, 100), 12, 200);
+    vec![
+        case("text height missing", 3, values.clone()),
+        show("text", 3, number(values, 5, 12)),
+    ]
+}
+
+fn points() -> Vec<Case> {
+    let values = text(text(number(none(), 1, 1), 4, b"0100003"), 5, b"a");
+    let values = coordinate(coordinate(number(values, 3, 2), 9, 100), 11, 200);
+    vec![show("point", 2, values)]
+}
+
+fn refusal(Refusal { reason, field }: Refusal) -> Vec<u8> {
+    format!(" NO {reason:02} {field:02}").into_bytes()
+}
+
+/// Whether bytes are as they were before the call.
+fn kept(bytes: &[u8]) -> &'static [u8] {
+    if bytes.iter().all(|byte| *byte == FILL) {
+        b" kept\n"
+    } else {
+        b" touched\n"
+    }
+}
+
+/// A record's bytes, its end in letters.
+fn record(bytes: &[u8]) -> Vec<u8> {
+    match bytes.strip_suffix(b"\r\n") {
+        Some(text) => [b" ", text, br"\r\n"].concat(),
+        None => [b" ", bytes].concat(),
+    }
+}
+
+/// A case's line: the case, the answer, and what became of the room.
+fn written(case: &Case) -> Vec<u8> {
+    let mut room = [FILL; ROOM];
+    let label = case.label.as_bytes();
+    match write(case.file, &case.values, &mut room[..case.lent]) {
+        Err(refused) => [label, &refusal(refused), kept(&room)].concat(),
+        Ok(length) => {
+            let shown = if case.shown {
+                record(&room[..length])
+            } else {
+                Vec::new()
+            };
+            [label, b" OK", &shown, b" rest", kept(&room[length..])].concat()
+        }
+    }
+}
+
+/// A node's file of one record, read.
+fn reading(n: usize) -> Vec<u8> {
+    let bytes = b"0000000001| |+|000000100|+|0000000200| |        \r\n";
+    let answer = read(7, bytes, n).map_or_else(refusal, |_| b" OK".to_vec());
+    let label = format!("read record {n}").into_bytes();
+    [label, answer, b"\n".to_vec()].concat()
+}
+
+/// All lines, in the program's order.
+pub fn calls() -> Vec<u8> {
+    let cases = [
+        nodes(),
+        files(),
+        names(),
+        codes(),
+        centroids(),
+        catalogue(),
+        tramos(),
+        vertices(),
+        texts(),
+        points(),
+    ];
+    let written = cases.iter().flatten().map(written);
+    let read = [0, 2, 1].into_iter().map(reading);
+    written.chain(read).flatten().collect()
+}
