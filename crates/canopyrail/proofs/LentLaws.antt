@@ -7,7 +7,7 @@ use mathlib.Core.Path.{_≡_, refl, sym, ap, ap₂, _∙_, subst}
 use native.Mathlib.Numerals.{add-one}
 use native.Mathlib.Omega.{arith}
 use lib.Dec.{eqb, ltb}
-use borrow.Author.Tests.{ltb-false, not-true}
+use borrow.Author.Tests.{ltb-true, ltb-false, not-true}
 use lib.IntN.{ℤ, pos}
 use lib.ListN.{length, getD, take, drop, set, length-set, take-append-drop, length-append}
 use lib.Seq.{drop-set-lt, drop-drop, take-length, take-at, length-take-le}
@@ -28,7 +28,7 @@ use Rattle.codec.specs.declared.values.Answer.the-variants.{Done, Refused}
 use Rattle.codec.specs.declared.values.Reading.{Reading}
 use Rattle.codec.specs.Calls.{Writes, readOf}
 use Rattle.canopyrail.specs.Answers.{refusalWord, answerWord}
-use Rattle.canopyrail.specs.Lent.{textRoom, strung, lentLength, Holds, heldValue, WritesLent, roomy, readAnswer, Reads}
+use Rattle.canopyrail.specs.Lent.{textRoom, strung, lentLength, Holds, isLent, heldValue, WritesLent, roomy, readAnswer, Reads}
 use Rattle.canopyrail.proofs.CallLaws.{refusal-told}
 
 -- LENT MEMORY FILLED: the first i places are put, and the rest is as it was
@@ -141,6 +141,15 @@ value-lent numbers coordinates lengths texts i {len} {number} {coordinate} {t} {
     let f : firstBytes (length t) t ≡ t = first-bytes-le (length t) t (omega arith) ∙ take-length t in
     let x : text ≡ padded widest (take widest (drop (widest * i) texts)) = ex ∙ rw f (ap (padded widest) et) in
     rw (el, en, ec, x)
+
+-- arrays that reach a field have it
+pub lent-reach : (a b c d i : ℕ) → isLent a b c d i ≡ true → (i < a) × (i < b) × (i < c)
+unfolding isLent
+lent-reach a b c d i e =
+    let p = and-true (ltb i a && ltb i b && ltb i c) _ e in
+    let q = and-true (ltb i a && ltb i b) (ltb i c) (p .0) in
+    let r = and-true (ltb i a) (ltb i b) (q .0) in
+    (ltb-true i a (r .0), ltb-true i b (r .1), ltb-true i c (q .1))
 
 -- A RECORD WRITTEN from lent values
 pub lent-writes : {file r : ℕ} {u v : Values} {room after : List ℕ} {a : Answer} → r ≡ answerWord a → u ≡ v → Writes file u room a after → WritesLent file v room r after

@@ -12,14 +12,9 @@ use record::kind::MOST_FIELDS;
 use record::kind::WIDEST;
 use record::reason::Reason;
 ghost use mathlib.Core.Path.{_≡_};
-ghost use mathlib.Core.Bool.{_&&_};
-ghost use mathlib.Core.List.{List, _++_};
-ghost use Prim.Native.Nat.{ℕ, _+_, _*_, _<_, _≤_};
-ghost use lib.IntN.{ℤ, pos};
-ghost use lib.ListN.{length, getD, take, drop};
-ghost use lib.Dec.{ltb};
+ghost use Prim.Native.Nat.{_<_, _≤_};
+ghost use lib.ListN.{length};
 ghost use Rattle.record.specs.Table.{mostFields};
-ghost use Rattle.codec.specs.Calls.{readOf};
 ghost use Rattle.canopyrail.specs.Lent.{lentLength, roomy, Holds, Reads, isLent, heldValue, lentValue, lentValues, WritesLent, textRoom};
 ghost use Rattle.canopyrail.specs.Answers.{answerWord};
 
@@ -103,29 +98,7 @@ pub extern "C" fn canopyrail_read(
     }
 }
 
-fn number_at(numbers: &[u64], i: usize) -> u64
-    ensures { λ r. ⌜ r ≡ getD (now (numbers .entry)) i 0 ⌝ }
-{
-    if i < numbers.len() { numbers[i] } else { 0 }
-}
-
-fn coordinate_at(coordinates: &[i64], i: usize) -> i64
-    ensures { λ r. ⌜ r ≡ getD (now (coordinates .entry)) i (pos 0) ⌝ }
-{
-    if i < coordinates.len() {
-        coordinates[i]
-    } else {
-        0
-    }
-}
-
-fn length_at(lengths: &[usize], i: usize) -> usize
-    ensures { λ r. ⌜ r ≡ getD (now (lengths .entry)) i 0 ⌝ }
-{
-    if i < lengths.len() { lengths[i] } else { 0 }
-}
-
-// What the four arrays hold of field i + 1.
+// What the four arrays, which reach it, hold of field i + 1.
 fn held_value(
     numbers: &[u64],
     coordinates: &[i64],
@@ -133,17 +106,17 @@ fn held_value(
     texts: &[u8],
     i: usize,
 ) -> Value
-    requires { ⌜ i < mostFields ⌝ }
+    requires { ⌜ (i < mostFields) × (i < length (now numbers)) × (i < length (now coordinates)) × (i < length (now lengths)) ⌝ }
     ensures { λ r. ⌜ r ≡ heldValue (now (numbers .entry)) (now (coordinates .entry)) (now (lengths .entry)) (now (texts .entry)) i ⌝ }
 {
-    let len = length_at(lengths, i);
+    let len = lengths[i];
     let t = part(texts, WIDEST * i, WIDEST);
     let mut text = [32u8; WIDEST];
     put_text(&mut text, t, t.len());
     Value {
         given: len != 0,
-        number: number_at(numbers, i),
-        coordinate: coordinate_at(coordinates, i),
+        number: numbers[i],
+        coordinate: coordinates[i],
         len,
         text,
     }

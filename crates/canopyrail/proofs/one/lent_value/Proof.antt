@@ -2,6 +2,7 @@
 -- Assumes nothing.
 use mathlib.Core.Path.{sym, _∙_}
 use Rattle.canopyrail.specs.Lent.{lentValue}
+use Rattle.canopyrail.proofs.LentLaws.{lent-reach}
 use borrow.Author.Needs.{needs}
 use Rattle.canopyrail.proofs.one.lent_value.Statement.{statement}
 use Rattle.canopyrail.proofs.one.lent_value.Tie as tie
@@ -10,7 +11,9 @@ is-lent-requires : tie.Need-is-lent-requires
 is-lent-requires c κs = search needs
 
 held-value-requires : tie.Need-held-value-requires
-held-value-requires c κs = search needs
+held-value-requires c κs =
+    let l = lent-reach _ _ _ _ _ (sym (c .before .is-lent .ensures) ∙ c .if1 .taken) in
+    (search needs, l .0, l .1, l .2)
 
 missing-value-requires : tie.Need-missing-value-requires
 missing-value-requires c κs = search needs
