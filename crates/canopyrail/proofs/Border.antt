@@ -24,7 +24,7 @@ use Rattle.codec.specs.declared.values.Answer.{Answer}
 use Rattle.codec.specs.declared.values.Answer.the-variants.{Done, Refused}
 use Rattle.codec.specs.Calls.{readOf, answerAs, Writes}
 use Rattle.codec.proofs.Theorems as one
-use Rattle.canopyrail.specs.Answers.{answerNumber, reasonIn, fileIn, recordIn, fieldIn, refusalWord, answerWord}
+use Rattle.canopyrail.specs.Answers.{answerNumber, reasonIn, fileIn, recordIn, fieldIn, otherIn, refusalWord, answerWord}
 use Rattle.canopyrail.specs.Lent.{Holds, roomy, readAnswer, Reads, WritesLent}
 
 zero-or : (r : ℕ) → Dec (r ≡ 0)
@@ -82,6 +82,10 @@ pub apart :
     → (reasonIn (answerNumber r f i p o) ≡ r) × (fileIn (answerNumber r f i p o) ≡ f) × (recordIn (answerNumber r f i p o) ≡ i) × (fieldIn (answerNumber r f i p o) ≡ p)
 unfolding answerNumber
 apart r f i p o lf li lp = (omega arith, omega arith, omega arith, omega arith)
+
+pub other-apart : (r f i p o : ℕ) → o < 100000 → otherIn (answerNumber r f i p o) ≡ o
+unfolding answerNumber
+other-apart r f i p o l = omega arith
 
 refusal-tells : (reason : Reason) (field : ℕ) {r : ℕ} → field ≤ mostFields → r ≡ refusalWord reason field → (reasonIn r ≡ numberOf reason) × (fieldIn r ≡ field)
 unfolding refusalWord

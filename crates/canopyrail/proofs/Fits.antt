@@ -21,7 +21,7 @@ use Rattle.record.specs.Table.{fieldsOf, fileOf, lengthOf, limit, mostFields, f
 use Rattle.record.specs.Files.{Files, deliveryOf}
 use Rattle.record.specs.Cut.{countOf}
 use Rattle.record.specs.Rules.{breaks10}
-use Rattle.record.specs.Breaks.{numberOf, shapeTests, there, testsAt, broken}
+use Rattle.record.specs.Breaks.{shapeTests, there, testsAt, broken}
 use Rattle.record.proofs.TableLaws.{sane}
 use Rattle.keys.specs.Groups.{brokenBy}
 use Rattle.keys.specs.Rules.{keysBroken}
@@ -29,8 +29,6 @@ use Rattle.topology.specs.Rules.{topologyBroken}
 use Rattle.judge.specs.Verdict.{judged, verdictOf}
 use Rattle.judge.specs.Broken.{isBroken, placeAt, First, Finds}
 use Rattle.judge.proofs.Exact.{exact}
-use Rattle.canopyrail.specs.Answers.{breakWord, findingWord, reasonIn, fileIn, recordIn, fieldIn}
-use Rattle.canopyrail.proofs.Border.{apart}
 
 -- a file that is not too long has at most 16,384 records
 count-small : (s : List ℕ) (k : Kind) → breaks10 s k ≡ false → countOf s k ≤ limit
@@ -80,11 +78,11 @@ module _ (files : Files) (n : ℕ) (k : Kind) (i f : ℕ) where
   low (suc zero) q l e = there-where (files k) k n i f (n % 10) _ (rw q at e)
   low (suc (suc t)) q l e = absurd (omega arith)
 
-  keys-where : keysBroken (deliveryOf files) k n i f ≡ true → (i ≤ limit) × (f ≤ mostFields)
+  pub keys-where : keysBroken (deliveryOf files) k n i f ≡ true → (i ≤ limit) × (f ≤ mostFields)
   unfolding keysBroken
   keys-where e = by-where _ k (deliveryOf files k .count) n i f (min-le-left limit (countOf (files k) k)) e
 
-  topology-where : topologyBroken (deliveryOf files) k n i f ≡ true → (i ≤ limit) × (f ≤ mostFields)
+  pub topology-where : topologyBroken (deliveryOf files) k n i f ≡ true → (i ≤ limit) × (f ≤ mostFields)
   unfolding topologyBroken
   topology-where e = by-where _ k (deliveryOf files k .count) n i f (min-le-left limit (countOf (files k) k)) e
 
@@ -117,7 +115,7 @@ long-broken : (files : Files) (k : Kind) → breaks10 (files k) k ≡ true → i
 unfolding isBroken broken testsAt
 long-broken files k e = rw e
 
-less-first : (x y : ℕ) (xs ys : List ℕ) → x < y → before (x ∷ xs) (y ∷ ys) ≡ true
+pub less-first : (x y : ℕ) (xs ys : List ℕ) → x < y → before (x ∷ xs) (y ∷ ys) ≡ true
 unfolding before
 less-first x y xs ys l = rw (lt-ltb x y l, before)
 
@@ -171,15 +169,3 @@ place-fits files b e = go (subst (Finds files) e (exact files .finds))
           rw (ap (λ (x : Break). x .«record») s) (record-small files (w .n) (w .k) (w .i) (w .f) (w .really) (w .least)),
           rw (ap (λ (x : Break). x .field) s) (p .1),
         )
-
--- so it is had back from the answer
-pub answer-tells :
-    (files : Files) (b : Break) → judged files ≡ Broken b
-    → (reasonIn (findingWord (judged files)) ≡ numberOf (b .reason))
-    × (fileIn (findingWord (judged files)) ≡ b .file)
-    × (recordIn (findingWord (judged files)) ≡ b .«record»)
-    × (fieldIn (findingWord (judged files)) ≡ b .field)
-unfolding breakWord
-answer-tells files b e =
-    let p = place-fits files b e in
-    rw e (apart (numberOf (b .reason)) (b .file) (b .«record») (b .field) _ (omega (arith, p .0)) (omega (arith, p .1)) (omega (arith, p .2)))

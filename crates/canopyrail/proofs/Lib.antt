@@ -1,6 +1,7 @@
 pub mod CallLaws
 pub mod LentLaws
 pub mod Fits
+pub mod Others
 pub mod Border
 pub mod Back
 pub mod Promises

@@ -9,9 +9,11 @@ use mathlib.Core.Bool.{true, false}
 use mathlib.Core.List.{List, [], _∷_, map, _++_}
 use mathlib.Core.Path.{_≡_, sym, ap, _∙_}
 use mathlib.Core.Logic.{_⊎_}
+use lib.Dec.{eqb}
 use lib.IntN.{ℤ}
 use lib.ListN.{length, take, drop, getD}
 use Rattle.laws.specs.Nest.{before}
+use Rattle.laws.specs.Row.{pick}
 use Rattle.record.specs.declared.kind.Kind.{Kind}
 use Rattle.record.specs.declared.kind.Which.the-variants.{NoFile, File}
 use Rattle.record.specs.declared.reason.Reason.{Reason}
@@ -44,10 +46,11 @@ use Rattle.judge.proofs.FreeWords as words
 use Rattle.judge.proofs.Writer as writer
 use Rattle.judge.proofs.CutShort as short
 use Rattle.judge.proofs.Cases as cases
-use Rattle.canopyrail.specs.Answers.{findingWord, reasonIn, fileIn, recordIn, fieldIn, otherIn}
+use Rattle.canopyrail.specs.Answers.{otherOf, findingWord, reasonIn, fileIn, recordIn, fieldIn, otherIn}
 use Rattle.canopyrail.specs.Lent.{lentOffset, lentForm, roomy, Reads, lentValues, WritesLent}
 use Rattle.canopyrail.proofs.CallLaws as calls
 use Rattle.canopyrail.proofs.Fits as fits
+use Rattle.canopyrail.proofs.Others as others
 use Rattle.canopyrail.proofs.Border as border
 use Rattle.canopyrail.proofs.Back as back
 
@@ -198,9 +201,13 @@ accepted-is-zero files e = ap findingWord e
 pub zero-is-accepted : (files : Files) → findingWord (judged files) ≡ 0 → judged files ≡ Fine
 zero-is-accepted files e = calls.zero-fine (judged files) e
 
--- else reason, file, record and field are had back from it, since every place that is shown fits its digits.
+-- else reason, file, record and field are had back from it, and what the reason carries: the earlier record of 30 and 54, the letter of
+-- 41. For all that is shown fits its digits.
 pub place-fits : (files : Files) (b : Break) → judged files ≡ Broken b → (b .file ≤ fileCount) × (b .«record» ≤ limit + 1) × (b .field ≤ mostFields)
 place-fits = fits.place-fits
+
+pub other-fits : (files : Files) (b : Break) → judged files ≡ Broken b → otherOf (b .reason) ≤ pick (eqb (numberOf (b .reason)) 41) 255 limit
+other-fits = others.other-fits
 
 pub answer-tells :
     (files : Files) (b : Break) → judged files ≡ Broken b
@@ -208,7 +215,8 @@ pub answer-tells :
     × (fileIn (findingWord (judged files)) ≡ b .file)
     × (recordIn (findingWord (judged files)) ≡ b .«record»)
     × (fieldIn (findingWord (judged files)) ≡ b .field)
-answer-tells = fits.answer-tells
+    × (otherIn (findingWord (judged files)) ≡ otherOf (b .reason))
+answer-tells = others.answer-tells
 
 -- 4. THE WRITER'S PROMISE: values that obey the rules, as files that the writer makes of them, are accepted, with their counts,
 pub writer-promise : (vs : Records) → Obeys vs → verdictOf (madeOf vs) ≡ accepted vs
