@@ -1,18 +1,22 @@
 -- Two deliveries that say the same, the one with its files' records in another order: where no rule of keys, references and
--- topology is broken in the one, none is in the other.
+-- topology is broken in the one, none is in the other. A rule's test at a record is the test at its new place; those that speak of
+-- earlier records (30 and 54) hold at as many records.
 -- Assumes nothing.
 use Prim.Native.Nat.{ℕ, zero, suc, _+_, _-_, _<_, _≤_}
 use mathlib.Core.Bool.{Bool, true, false, not, _&&_, _||_}
 use mathlib.Core.List.{[]}
-use mathlib.Core.Path.{_≡_, refl, sym, ap, ap₂, _∙_}
+use mathlib.Core.Path.{_≡_, refl, ap, ap₂, _∙_}
 use native.Mathlib.Decide.{ℕ-discrete}
 use native.Mathlib.Omega.{arith}
 use lib.Dec.{leb, eqb}
 use lib.ListN.{getD}
 use borrow.Author.Tests.{leb-true, eqb-true, eq-eqb, ne-eqb}
 use Rattle.laws.specs.Find.{any, names}
+use Rattle.laws.specs.Count.{howMany}
 use Rattle.laws.specs.Row.{pick, each}
-use Rattle.laws.proofs.RowLaws.{and-true, then-false, and-last, same-test, picked, end, more, falses}
+use Rattle.laws.proofs.RowLaws.{and-true, then-false, and-last, picked, end, more, falses}
+use Rattle.laws.proofs.Turns.{Turn, any-turn}
+use Rattle.laws.proofs.CountLaws.{Alike, alike-by, alike-both, again-turn, count-none, count-no, count-under}
 use Rattle.record.specs.declared.kind.Kind.{Kind}
 use Rattle.record.specs.declared.kind.Kind.the-variants.{Catalogo, ObPun, ObLin, Tramo, Vertice, Nodo}
 use Rattle.record.specs.Table.{Col, whole, cols, colAt, fieldsOf, fileOf, keysOf, targetOf}
@@ -23,9 +27,9 @@ use Rattle.record.specs.declared.kind.Target.the-variants.{Free, Nowhere, To}
 use Rattle.record.specs.Files.{Delivery}
 use Rattle.record.specs.Names.{nameAt, vertexKey, keyOf}
 use Rattle.keys.specs.Rules.{repeats, breaks30, dangles, danglesTo, breaks40, typedIn, mistyped, breaks41, keyTests, keysBroken}
-use Rattle.topology.specs.Rules.{isAt, placed, nodeIn, hasVertex, highestIn, highest, meets, elsewhere, tramoLine, gap, breaks50, unpaired, breaks51, startElsewhere, breaks52, endElsewhere, breaks53, samePlace, placedBefore, breaks54, pointElsewhere, breaks55, nodeUsed, breaks56, objectIdle, breaks57, breaks59, fifties, topologyTests, topologyBroken}
+use Rattle.topology.specs.Rules.{xAt, yAt, zAt, isAt, placed, nodeIn, hasVertex, highestIn, highest, meets, elsewhere, tramoLine, gap, breaks50, unpaired, breaks51, startElsewhere, breaks52, endElsewhere, breaks53, samePlace, placedBefore, breaks54, pointElsewhere, breaks55, nodeUsed, breaks56, objectIdle, breaks57, breaks59, fifties, topologyTests, topologyBroken}
 use Rattle.judge.proofs.NoneBroken.{NoTest, none-tests, tests-none}
-use Rattle.judge.proofs.Turns.{Turn, any-turn, earlier-turn, highest-turn}
+use Rattle.judge.proofs.Turns.{highest-turn}
 
 -- record i of a file of e is record `to i` of that of d
 pub record Rearranged (d e : Delivery) : Type 0 where
@@ -56,15 +60,10 @@ target-fits : (k : Kind) (f : ℕ) → fits (targetOf k f) ≡ true
 unfolding targetOf colAt
 target-fits k f = each-getD fitting (cols k) whole refl (lawful-all k .2) f
 
-eqb-swap : (a b : ℕ) → eqb a b ≡ eqb b a
-eqb-swap a b = same-test (eqb a b) (eqb b a) (λ e. eq-eqb b a (sym (eqb-true a b e))) (λ e. eq-eqb a b (sym (eqb-true b a e)))
-
-same-swap : (t : Table) (i j : ℕ) → samePlace t i j ≡ samePlace t j i
+-- nodes at the same X, Y, Z are alike
+same-alike : (t : Table) → Alike (samePlace t)
 unfolding samePlace
-same-swap t i j = ap₂ _&&_ (at 4) (ap₂ _&&_ (at 6) (at 8))
-  where
-    at : (f : ℕ) → eqb (placeIn (t .says j f)) (placeIn (t .says i f)) ≡ eqb (placeIn (t .says i f)) (placeIn (t .says j f))
-    at f = eqb-swap (placeIn (t .says j f)) (placeIn (t .says i f))
+same-alike t = alike-both (alike-by (xAt Nodo t)) (alike-both (alike-by (yAt Nodo t)) (alike-by (zAt Nodo t)))
 
 module _ (d e : Delivery) (r : Rearranged d e) where
   abbrev to : Kind → ℕ → ℕ
@@ -115,12 +114,20 @@ module _ (d e : Delivery) (r : Rearranged d e) where
       (names-there Catalogo _ _ code-there x)
       (any-there Catalogo _ _ (λ j l. rw (code-there j l, r .says Catalogo j 2 l (omega arith))))
 
+  -- 30: THE NUMBER of a file's records whose key equals an earlier record's
+  repeats-there : (k : Kind) → howMany (repeats (keyOf k (e k))) (d k .count) ≡ howMany (repeats (keyOf k (d k))) (d k .count)
+  unfolding repeats
+  repeats-there k =
+      again-turn (r .turn k) (λ x y. eqb (keyOf k (e k) y) (keyOf k (e k) x)) (alike-by (keyOf k (d k)))
+      (λ x y a b. ap₂ eqb (key-there k y b) (key-there k x a))
+
+  pub count-30 : (k : Kind) (f : ℕ) → howMany (λ i. breaks30 e k i f) (e k .count) ≡ howMany (λ i. breaks30 d k i f) (d k .count)
+  unfolding breaks30
+  count-30 k f = ap (howMany (λ i. breaks30 e k i f)) (r .count k) ∙ count-under (eqb f (keysOf k)) _ _ (d k .count) (repeats-there k)
+
   module _ (k : Kind) (i : ℕ) (l : i < d k .count) where
     none-30 : ((j : ℕ) → j < d k .count → repeats (keyOf k (d k)) j ≡ false) → repeats (keyOf k (e k)) i ≡ false
-    unfolding repeats
-    none-30 h =
-        earlier-turn (r .turn k) (λ x y. eqb (keyOf k (d k) y) (keyOf k (d k) x)) (λ x y. eqb (keyOf k (e k) y) (keyOf k (e k) x))
-        (λ x y. eqb-swap (keyOf k (d k) y) (keyOf k (d k) x)) (λ x y a b. ap₂ eqb (key-there k y b) (key-there k x a)) h i l
+    none-30 h = count-no (repeats (keyOf k (e k))) (d k .count) (repeats-there k ∙ count-none _ (d k .count) h) l
 
     module _ (f : ℕ) (b : f ≤ fieldsOf k) where
       there-40 : breaks40 e k i f ≡ breaks40 d k (to k i) f
@@ -207,6 +214,15 @@ module _ (d e : Delivery) (r : Rearranged d e) where
           → eqb (placeIn (e Nodo .says j f)) (placeIn (e Nodo .says i f)) ≡ eqb (placeIn (d Nodo .says (to Nodo j) f)) (placeIn (d Nodo .says (to Nodo i) f))
       same-at f b = ap₂ (λ (x y : Said). eqb (placeIn x) (placeIn y)) (r .says Nodo j f m b) (r .says Nodo i f l b)
 
+  -- 54: THE NUMBER of nodes at the X, Y, Z of an earlier one
+  placed-before-there : howMany (placedBefore (e Nodo)) (d Nodo .count) ≡ howMany (placedBefore (d Nodo)) (d Nodo .count)
+  unfolding placedBefore
+  placed-before-there = again-turn (r .turn Nodo) (samePlace (e Nodo)) (same-alike (d Nodo)) same-there
+
+  pub count-54 : (f : ℕ) → howMany (λ i. breaks54 e Nodo i f) (e Nodo .count) ≡ howMany (λ i. breaks54 d Nodo i f) (d Nodo .count)
+  unfolding breaks54
+  count-54 f = ap (howMany (λ i. breaks54 e Nodo i f)) (r .count Nodo) ∙ count-under (isAt Nodo 0 Nodo f) _ _ (d Nodo .count) placed-before-there
+
   point-there : (i : ℕ) → i < d ObPun .count → pointElsewhere (e ObPun) (e Nodo) i ≡ pointElsewhere (d ObPun) (d Nodo) (to ObPun i)
   unfolding pointElsewhere
   point-there i l =
@@ -247,8 +263,7 @@ module _ (d e : Delivery) (r : Rearranged d e) where
     separate j l = h Nodo 5 j 0 4 l (omega arith) (omega arith)
 
     none-54 : (i : ℕ) → i < d Nodo .count → placedBefore (e Nodo) i ≡ false
-    unfolding placedBefore
-    none-54 = earlier-turn (r .turn Nodo) (samePlace (d Nodo)) (samePlace (e Nodo)) (same-swap (d Nodo)) same-there separate
+    none-54 i l = count-no (placedBefore (e Nodo)) (d Nodo .count) (placed-before-there ∙ count-none _ (d Nodo .count) separate) l
 
     fifties-there : (k : Kind) (i f u : ℕ) → i < d k .count → f ≤ fieldsOf k → getD (fifties e k i f) u false ≡ false
     unfolding fifties breaks50 breaks51 breaks52 breaks53 breaks54 breaks55 breaks56 breaks57 breaks59

@@ -7,6 +7,7 @@ use mathlib.Core.Path.{_≡_, refl, ap, fun-ext, _∙_}
 use native.Mathlib.Omega.{arith}
 use lib.ListN.{length}
 use Rattle.laws.proofs.FindLaws.{first-none}
+use Rattle.laws.proofs.Turns.{stay}
 use Rattle.record.specs.declared.kind.Kind.{Kind}
 use Rattle.record.specs.declared.reason.Finding.the-variants.{Fine}
 use Rattle.record.specs.Table.{kinds}
@@ -22,7 +23,6 @@ use Rattle.judge.specs.Verdict.{groups, groupAt, judged, countsOf, verdi
 use Rattle.judge.specs.Obeys.{Records, valuesAt, tablesOf, Obeys, madeOf, Shuffled, lengthsOf, accepted}
 use Rattle.judge.proofs.NoneBroken.{over-fine, none-broken-fine}
 use Rattle.judge.proofs.Made.{count-written, shape-written, fields-written, said-written}
-use Rattle.judge.proofs.Turns.{stay}
 use Rattle.judge.proofs.Rearranged.{Rearranged, keys-rearranged, topology-rearranged}
 use Rattle.judge.proofs.Shuffle.{shuffled-obeys}
 

@@ -1,6 +1,6 @@
-pub mod FoundLaws
 pub mod RepeatLaws
 pub mod ReferLaws
+pub mod TypeLaws
 pub mod CellLaws
 pub mod OverLaws
 pub mod KeyCells

@@ -1,22 +1,28 @@
 -- The laws of references: tests of a name by cases, and searches over arrays carried to the columns that fill them.
 -- Assumes nothing.
 use Prim.Native.Nat.{ℕ, _<_, _≤_}
-use mathlib.Core.Bool.{Bool, true, false, not}
+use mathlib.Core.Bool.{Bool, true, false, not, _&&_}
 use mathlib.Core.List.{List}
 use mathlib.Core.Option.{none}
-use mathlib.Core.Path.{_≡_, sym, ap, _∙_}
+use mathlib.Core.Logic.{⊎-elim}
+use mathlib.Core.Path.{_≡_, refl, sym, ap, _∙_}
 use native.Mathlib.Omega.{arith}
 use native.Mathlib.Decide.{ℕ-discrete}
+use lib.Dec.{eqb}
 use lib.ListN.{length, getD}
 use borrow.Author.Tests.{eq-eqb, ne-eqb}
 use Rattle.laws.specs.Find.{firstIndex, names}
-use Rattle.laws.proofs.FindLaws.{index-same, index-none, any-same, any-true}
-use Rattle.index.specs.Keys.{listed}
+use Rattle.laws.specs.Count.{bit}
+use Rattle.laws.proofs.FindLaws.{true-false, index-same, index-none, index-none-at, any-same, any-true, any-false, any-no}
+use Rattle.index.specs.Keys.{listed, firstDuplicate}
 use Rattle.index.specs.Look.{Sought}
+use Rattle.index.specs.Marks.{Marked}
 use Rattle.index.specs.declared.Found.{Found}
 use Rattle.index.specs.declared.Found.the-variants.{At, Nothing}
+use Rattle.index.proofs.OrderLaws.{less-or}
 use Rattle.index.proofs.LookLaws.{sought-record, sought-yes, sought-none}
 use Rattle.record.specs.declared.kind.Kind.the-variants.{Catalogo}
+use Rattle.record.specs.Table.{limit}
 use Rattle.record.specs.Says.{Table, letterIn}
 use Rattle.record.specs.machinery.Columns.{Fills}
 use Rattle.record.specs.Names.{nameAt}
@@ -47,6 +53,15 @@ module _ {l : List ℕ} {key : ℕ → ℕ} {m n : ℕ} (fills : Fills l key m n
   index-filled p q same =
       rw (fills .count) (index-same _ _ m (λ k u. same (getD l k 0) ∙ ap q (fills .holds k u)))
 
+  -- and so do marks
+  pub marked-filled :
+      {before after : List ℕ} (p q : ℕ → Bool) → ((x : ℕ) → p x ≡ q x) → Marked before after (λ i. p (getD l i 0)) n → Marked before after (λ i. q (key i)) m
+  marked-filled p q same s =
+      record { long = s .long; says = λ i u. s .says i (omega (arith, fills .count)) ∙ ap bit (same (getD l i 0) ∙ ap q (fills .holds i u)) }
+
+  pub fills-limit : n ≤ limit
+  fills-limit = omega (arith, fills .count, fills .small)
+
   pub fills-room : n ≤ length l
   fills-room = omega (arith, fills .count, fills .small, fills .long)
 
@@ -63,6 +78,18 @@ pub none-dangles-filled :
     → ((i : ℕ) → i < m → (getD refs i 0 ≡ 0 → ⊥) → names (listed keys) n (getD refs i 0) ≡ true) → firstIndex (λ i. dangles key b (column i)) a ≡ none
 none-dangles-filled {refs} {keys} {m = m} {n} names-in keys-in known =
     sym (index-filled names-in _ _ (dangles-filled keys-in)) ∙ none-dangles (listed keys) n refs m known
+
+-- KEYS THAT ARE APART: no two records have one
+apart-one : (key : ℕ → ℕ) (n : ℕ) → firstDuplicate key n ≡ none → {i j : ℕ} → i < j → j < n → key i ≡ key j → ⊥
+apart-one key n d {i} {j} l u e =
+    true-false (sym (eq-eqb (key i) (key j) e) ∙ any-no (λ r. eqb (key r) (key j)) j (index-none-at (λ r. names key r (key r)) n d u) l)
+
+apart-two : (key : ℕ → ℕ) (n : ℕ) → firstDuplicate key n ≡ none → {i j : ℕ} → i < n → j < n → (i ≡ j → ⊥) → key i ≡ key j → ⊥
+apart-two key n d {i} {j} a b ne e = ⊎-elim (λ (l : i < j). apart-one key n d l b e) (λ (l : j ≤ i). apart-one key n d (omega (arith, l, ne)) a (sym e)) (less-or i j)
+
+pub and-false : (t : Bool) → (t && false) ≡ false
+and-false true = refl
+and-false false = refl
 
 -- A CODE of another type than the one wanted, where f is what a look-up of the code says
 module _ (cat : Table) {keys : List ℕ} {n : ℕ} (fills : Fills keys (λ j. nameAt Catalogo cat j 1) (cat .count) n) (wanted x : ℕ) {f : Found} (s : Sought keys n x f) where
@@ -83,3 +110,19 @@ module _ (cat : Table) {keys : List ℕ} {n : ℕ} (fills : Fills keys (λ j. na
 
   pub mistyped-typed : {j : ℕ} → f ≡ At j → letterIn (cat .says j 2) ≡ wanted → false ≡ mistyped wanted cat x
   mistyped-typed e h = rw (mistyped-found e, typed-found e h)
+
+  -- where keys are apart, the record that is found is the only one with the code
+  typed-only : {j : ℕ} → f ≡ At j → firstDuplicate (listed keys) n ≡ none → (letterIn (cat .says j 2) ≡ wanted → ⊥) → typedIn wanted cat x ≡ false
+  unfolding typedIn
+  typed-only {j} e d h = any-false _ (cat .count) (λ i u. go i u (ℕ-discrete i j))
+    where
+      go : (i : ℕ) → i < cat .count → Dec (i ≡ j) → (eqb (nameAt Catalogo cat i 1) x && eqb (letterIn (cat .says i 2)) wanted) ≡ false
+      go i u (yes q) = rw (q, ne-eqb (letterIn (cat .says j 2)) wanted h) (and-false (eqb (nameAt Catalogo cat j 1) x))
+      go i u (no q) =
+          let r = sought-record keys n x s e in
+          rw
+          (ne-eqb (nameAt Catalogo cat i 1) x
+          (λ w. apart-two (listed keys) n d (omega (arith, fills .count)) (r .0) q (fills .holds i u ∙ w ∙ sym (r .1))))
+
+  pub mistyped-apart : {j : ℕ} → f ≡ At j → firstDuplicate (listed keys) n ≡ none → (letterIn (cat .says j 2) ≡ wanted → ⊥) → true ≡ mistyped wanted cat x
+  mistyped-apart e d h = rw (mistyped-found e, typed-only e d h)

@@ -1,16 +1,19 @@
 // The first break of the thirties and forties in a file and in a delivery. A file's first break is sought by cells, ten a field, one
 // for each reason: the first record of each cell, and of those the least.
-use crate::refer::first_dangling;
-use crate::refer::first_mistyped;
-use crate::refer::first_present;
+use crate::refer::mark_dangling;
+use crate::refer::mark_mistyped;
+use crate::refer::mark_present;
 use crate::repeat::first_repeat;
+use crate::repeat::mark_repeated;
 use index::Found;
+use index::marks::first_marked;
 use record::check::break_of;
 use record::columns::letter;
 use record::columns::rows;
 use record::files::file_of;
 use record::kind::FILES;
 use record::kind::Kind;
+use record::kind::LIMIT;
 use record::kind::Target;
 use record::kind::Which;
 use record::kind::kind_of;
@@ -22,16 +25,17 @@ ghost use mathlib.Core.Path.{_≡_};
 ghost use mathlib.Core.Bool.{false};
 ghost use mathlib.Core.List.{List, map};
 ghost use Prim.Native.Nat.{ℕ, _≤_, _<_};
-ghost use lib.ListN.{getD};
+ghost use lib.ListN.{length, getD};
 ghost use Rattle.laws.specs.Find.{firstIndex};
 ghost use Rattle.index.specs.Keys.{foundOf};
 ghost use Rattle.record.specs.Table.{limit};
 ghost use Rattle.record.specs.Files.{filesOf, deliveryOf};
 ghost use Rattle.record.specs.Says.{tableOf};
-ghost use Rattle.record.specs.Names.{nameAt, keyOf};
+ghost use Rattle.record.specs.Names.{keyOf};
 ghost use Rattle.keys.specs.Rules.{breaks30, breaks40, breaks41, keyTests, keyReasons, refersToCatalogue, firstWith, keysIn, keysFinding};
 ghost use Rattle.keys.specs.Groups.{atFile};
 ghost use Rattle.keys.specs.machinery.Cells.{betterOf};
+ghost use Rattle.keys.specs.machinery.Marks.{MarkedWhere, isFree};
 
 // The least record of some cells and its cell, where one is found.
 pub struct Best {
@@ -71,17 +75,35 @@ fn first_30<'a>(k: Kind, f: usize, files: [&'a [u8]; FILES]) -> Found
     }
 }
 
-// 40, by what the field refers to.
-fn first_40<'a>(k: Kind, f: usize, files: [&'a [u8]; FILES]) -> Found
-    ensures { λ r. ⌜ r ≡ foundOf (firstIndex (λ i. breaks40 (deliveryOf (filesOf (map now (files .entry)))) k i f) (deliveryOf (filesOf (map now (files .entry))) k .count)) ⌝ }
+// The same of 30: marks of the records that break it. False where the field isn't the key's last, and none can.
+fn mark_30<'a>(k: Kind, f: usize, files: [&'a [u8]; FILES], marks: &mut [u8]) -> bool
+    requires { ⌜ limit ≤ length (now marks) ⌝ }
+    ensures { λ r. ⌜ MarkedWhere r (now (marks .entry)) (now (marks .exit)) (λ i. breaks30 (deliveryOf (filesOf (map now (files .entry)))) k i f) (deliveryOf (filesOf (map now (files .entry))) k .count) ⌝ }
+{
+    if f == k.keys() {
+        mark_repeated(file_of(files, k), k, marks);
+        true
+    } else {
+        false
+    }
+}
+
+// 40, by what the field refers to. False where it is no reference.
+fn mark_40<'a>(k: Kind, f: usize, files: [&'a [u8]; FILES], marks: &mut [u8]) -> bool
+    requires { ⌜ limit ≤ length (now marks) ⌝ }
+    ensures { λ r. ⌜ MarkedWhere r (now (marks .entry)) (now (marks .exit)) (λ i. breaks40 (deliveryOf (filesOf (map now (files .entry)))) k i f) (deliveryOf (filesOf (map now (files .entry))) k .count) ⌝ }
 {
     let own = file_of(files, k);
     match k.target(f) {
-        Target::Free => Found::Nothing,
-        Target::Nowhere => first_present(own, k, f),
+        Target::Free => false,
+        Target::Nowhere => {
+            mark_present(own, k, f, marks);
+            true
+        }
         Target::To(other, g) => {
             let to = file_of(files, other);
-            first_dangling(own, k, f, to, other, g)
+            mark_dangling(own, k, f, to, other, g, marks);
+            true
         }
     }
 }
@@ -96,20 +118,74 @@ fn refers_to_catalogue(t: Target) -> bool
     }
 }
 
-// 41, of a code.
-fn first_41<'a>(k: Kind, f: usize, files: [&'a [u8]; FILES]) -> Found
-    ensures { λ r. ⌜ r ≡ foundOf (firstIndex (λ i. breaks41 (deliveryOf (filesOf (map now (files .entry)))) k i f) (deliveryOf (filesOf (map now (files .entry))) k .count)) ⌝ }
+// 41, of a code. False where the field is none.
+fn mark_41<'a>(k: Kind, f: usize, files: [&'a [u8]; FILES], marks: &mut [u8]) -> bool
+    requires { ⌜ limit ≤ length (now marks) ⌝ }
+    ensures { λ r. ⌜ MarkedWhere r (now (marks .entry)) (now (marks .exit)) (λ i. breaks41 (deliveryOf (filesOf (map now (files .entry)))) k i f) (deliveryOf (filesOf (map now (files .entry))) k .count) ⌝ }
 {
     if refers_to_catalogue(k.target(f)) {
         let own = file_of(files, k);
         let catalogo = file_of(files, Kind::Catalogo);
-        first_mistyped(own, k, f, catalogo, k.letter())
+        mark_mistyped(own, k, f, catalogo, k.letter(), marks);
+        true
+    } else {
+        false
+    }
+}
+
+// Marks of the records of file k that break the reason 10 t + u at field f. False where the file hasn't the rule there, and none can.
+fn mark_in<'a>(
+    t: usize,
+    k: Kind,
+    f: usize,
+    u: usize,
+    files: [&'a [u8]; FILES],
+    marks: &mut [u8],
+) -> bool
+    requires { ⌜ limit ≤ length (now marks) ⌝ }
+    ensures { λ r. ⌜ MarkedWhere r (now (marks .entry)) (now (marks .exit)) (λ i. getD (keyTests t (deliveryOf (filesOf (map now (files .entry)))) k i f) u false) (deliveryOf (filesOf (map now (files .entry))) k .count) ⌝ }
+{
+    if t == 3 {
+        if u == 0 {
+            return mark_30(k, f, files, marks);
+        }
+        return false;
+    }
+    if t == 4 {
+        if u == 0 {
+            return mark_40(k, f, files, marks);
+        }
+        if u == 1 {
+            return mark_41(k, f, files, marks);
+        }
+    }
+    false
+}
+
+// The first record that is marked, for the reason 10 t + u at field f of file k.
+fn first_by_marks<'a>(t: usize, k: Kind, f: usize, u: usize, files: [&'a [u8]; FILES]) -> Found
+    ensures { λ r. ⌜ r ≡ foundOf (firstIndex (λ i. getD (keyTests t (deliveryOf (filesOf (map now (files .entry)))) k i f) u false) (deliveryOf (filesOf (map now (files .entry))) k .count)) ⌝ }
+{
+    let n = rows(file_of(files, k), k);
+    let mut marks = [0u8; LIMIT];
+    if mark_in(t, k, f, u, files, &mut marks) {
+        first_marked(&marks, n)
     } else {
         Found::Nothing
     }
 }
 
-// The first record of file k that breaks the reason 10 t + u at field f.
+fn is_free(t: Target) -> bool
+    ensures { λ r. ⌜ r ≡ isFree t ⌝ }
+{
+    match t {
+        Target::Free => true,
+        Target::Nowhere => false,
+        Target::To(_, _) => false,
+    }
+}
+
+// The first record of file k that breaks the reason 10 t + u at field f. Most fields are no references: no marks are made for them.
 fn first_in<'a>(t: usize, k: Kind, f: usize, u: usize, files: [&'a [u8]; FILES]) -> Found
     ensures { λ r. ⌜ r ≡ foundOf (firstIndex (λ i. getD (keyTests t (deliveryOf (filesOf (map now (files .entry)))) k i f) u false) (deliveryOf (filesOf (map now (files .entry))) k .count)) ⌝ }
 {
@@ -120,11 +196,11 @@ fn first_in<'a>(t: usize, k: Kind, f: usize, u: usize, files: [&'a [u8]; FILES])
         return Found::Nothing;
     }
     if t == 4 {
-        if u == 0 {
-            return first_40(k, f, files);
-        }
-        if u == 1 {
-            return first_41(k, f, files);
+        if u < 2 {
+            if is_free(k.target(f)) {
+                return Found::Nothing;
+            }
+            return first_by_marks(t, k, f, u, files);
         }
     }
     Found::Nothing

@@ -1,11 +1,15 @@
-// Reasons 40 and 41: the first record of a file with a reference that names no record, or a code of another type.
+// Reasons 40 and 41: marks of the records of a file with a reference that names no record, or a code of another type.
+//
+// Why marks and not a search for the first: a delivery may be broken at every record, and what is told of it goes by each of them. One
+// pass over a column fills them, and each look-up is exact (index::way), so no pass goes over the other file's records.
 use index::Found;
 use index::HINTS;
-use index::hint::all_present_in;
-use index::hint::fill_hints;
-use index::hint::find_hinted;
-use index::look::has;
-use index::order::sort;
+use index::marks::as_mark;
+use index::marks::clear;
+use index::way::Way;
+use index::way::is_there;
+use index::way::look;
+use index::way::prepare;
 use record::columns::letter;
 use record::columns::rows;
 use record::fill::fill_names;
@@ -17,13 +21,16 @@ ghost use mathlib.Core.Bool.{not};
 ghost use Prim.Native.Nat.{ℕ, _≤_, _<_};
 ghost use lib.Dec.{eqb};
 ghost use lib.ListN.{length, getD};
-ghost use Rattle.laws.specs.Find.{firstIndex, any};
+ghost use Rattle.laws.specs.Find.{firstIndex};
 ghost use Rattle.index.specs.Keys.{foundOf};
-ghost use Rattle.index.specs.Order.{Index};
-ghost use Rattle.record.specs.Says.{tableOf};
+ghost use Rattle.index.specs.Marks.{Marked};
+ghost use Rattle.index.specs.Way.{Ready};
+ghost use Rattle.record.specs.Table.{limit};
+ghost use Rattle.record.specs.Says.{tableOf, letterIn};
 ghost use Rattle.record.specs.Names.{nameAt};
-ghost use Rattle.keys.specs.Rules.{dangles, mistyped, typedIn};
+ghost use Rattle.keys.specs.Rules.{dangles, mistyped};
 ghost use Rattle.record.specs.machinery.Columns.{Fills};
+ghost use Rattle.keys.specs.machinery.Types.{Types};
 
 // The first record whose field is there at all.
 pub fn first_present(s: &[u8], k: Kind, f: usize) -> Found
@@ -40,134 +47,199 @@ pub fn first_present(s: &[u8], k: Kind, f: usize) -> Found
     Found::Nothing
 }
 
-// The first of m names that isn't missing and is none of n keys.
-fn first_unknown<'a>(
+// The records whose field is there at all.
+pub(crate) fn mark_present(s: &[u8], k: Kind, f: usize, marks: &mut [u8])
+    requires { ⌜ limit ≤ length (now marks) ⌝ }
+    ensures { λ _. ⌜ Marked (now (marks .entry)) (now (marks .exit)) (λ i. not (eqb (nameAt k (tableOf (now (s .entry)) k) i f) 0)) (tableOf (now (s .entry)) k .count) ⌝ }
+{
+    let n = rows(s, k);
+    let mut i = 0;
+    while i < n {
+        marks[i] = as_mark(name(s, k, i, f) != 0);
+        i += 1;
+    }
+}
+
+// Whether a name isn't missing and is none of n keys.
+fn is_unknown<'a>(
+    keys: &'a [u64],
+    order: &'a [usize],
+    hints: &'a [u16],
+    way: Way,
+    n: usize,
+    x: u64,
+) -> bool
+    requires { ⌜ Ready (now keys) (now order) (now hints) n way ⌝ }
+    ensures { λ r. ⌜ r ≡ dangles (λ j. getD (now (keys .entry)) j 0) n x ⌝ }
+{
+    if x == 0 {
+        return false;
+    }
+    !is_there(keys, order, hints, way, n, x)
+}
+
+// Of m names those that aren't missing and are none of n keys.
+fn mark_unknown<'a>(
     refs: &'a [u64],
     m: usize,
     keys: &'a [u64],
     order: &'a [usize],
+    hints: &'a [u16],
+    way: Way,
     n: usize,
-) -> Found
-    requires { ⌜ (m ≤ length (now refs)) × Index (now keys) (now order) n ⌝ }
-    ensures { λ r. ⌜ r ≡ foundOf (firstIndex (λ i. dangles (λ j. getD (now (keys .entry)) j 0) n (getD (now (refs .entry)) i 0)) m) ⌝ }
+    marks: &mut [u8],
+)
+    requires { ⌜ (m ≤ length (now refs)) × (m ≤ length (now marks)) × Ready (now keys) (now order) (now hints) n way ⌝ }
+    ensures { λ _. ⌜ Marked (now (marks .entry)) (now (marks .exit)) (λ i. dangles (λ j. getD (now (keys .entry)) j 0) n (getD (now (refs .entry)) i 0)) m ⌝ }
 {
     let mut i = 0;
     while i < m {
-        let x = refs[i];
-        if x != 0 {
-            if !has(keys, order, n, x) {
-                return Found::At(i);
-            }
-        }
+        marks[i] = as_mark(is_unknown(keys, order, hints, way, n, refs[i]));
         i += 1;
     }
-    Found::Nothing
 }
 
-// The first record of s whose field f names no record of to by its field g. Where hints show every name, nothing is sorted.
-pub fn first_dangling<'a>(
+// The records of s whose field f names no record of to by its field g.
+pub(crate) fn mark_dangling<'a>(
     s: &'a [u8],
     k: Kind,
     f: usize,
     to: &'a [u8],
     other: Kind,
     g: usize,
-) -> Found
-    ensures { λ r. ⌜ r ≡ foundOf (firstIndex (λ i. dangles (λ j. nameAt other (tableOf (now («to» .entry)) other) j g) (tableOf (now («to» .entry)) other .count) (nameAt k (tableOf (now (s .entry)) k) i f)) (tableOf (now (s .entry)) k .count)) ⌝ }
+    marks: &mut [u8],
+)
+    requires { ⌜ limit ≤ length (now marks) ⌝ }
+    ensures { λ _. ⌜ Marked (now (marks .entry)) (now (marks .exit)) (λ i. dangles (λ j. nameAt other (tableOf (now («to» .entry)) other) j g) (tableOf (now («to» .entry)) other .count) (nameAt k (tableOf (now (s .entry)) k) i f)) (tableOf (now (s .entry)) k .count) ⌝ }
 {
     let mut refs = [0u64; LIMIT];
     let m = fill_names(s, k, f, &mut refs);
     let mut keys = [0u64; LIMIT];
     let n = fill_names(to, other, g, &mut keys);
-    if all_present_in(&refs, m, &keys, n) {
-        return Found::Nothing;
-    }
+    let mut hints = [0u16; HINTS];
     let mut order = [0usize; LIMIT];
-    if sort(&keys, &mut order, n) {
-        first_unknown(&refs, m, &keys, &order, n)
-    } else {
-        Found::Nothing
-    }
+    let way = prepare(&keys, n, &mut hints, &mut order);
+    mark_unknown(&refs, m, &keys, &order, &hints, way, n, marks);
 }
 
-// Whether a catalogue record has the code and the letter, by scanning.
-fn typed(cat: &[u8], x: u64, wanted: u8) -> bool
-    ensures { λ r. ⌜ r ≡ typedIn wanted (tableOf (now (cat .entry)) Kind.Catalogo) x ⌝ }
+// Marks, of each code that is catalogued under the type, the record that a look-up of it finds. It is the same for equal codes, and so
+// tells of all its records. Where no two codes are equal the record's own letter tells, and no marks are made.
+fn mark_types<'a>(
+    cat: &'a [u8],
+    keys: &'a [u64],
+    order: &'a [usize],
+    hints: &'a [u16],
+    way: Way,
+    n: usize,
+    wanted: u8,
+    types: &mut [u8],
+)
+    requires { ⌜ Ready (now keys) (now order) (now hints) n way × (n ≤ length (now types)) ⌝ }
+    ensures { λ _. ⌜ Types (now (keys .entry)) (now (order .entry)) (now (hints .entry)) way n (λ j. eqb (letterIn (tableOf (now (cat .entry)) Kind.Catalogo .says j 2)) wanted) (now (types .exit)) ⌝ }
 {
-    let n = rows(cat, Kind::Catalogo);
+    if way.apart {
+        return;
+    }
+    clear(types, n);
     let mut j = 0;
     while j < n {
-        if (name(cat, Kind::Catalogo, j, 1) == x) & (letter(cat, Kind::Catalogo, j, 2) == wanted) {
-            return true;
-        }
+        let found = look(keys, order, hints, way, n, keys[j]);
+        let Found::At(r) = found else {
+            return;
+        };
+        let typed = (types[r] == 1) | (letter(cat, Kind::Catalogo, j, 2) == wanted);
+        types[r] = as_mark(typed);
         j += 1;
     }
-    false
 }
 
-// Whether the code is catalogued, and under no record of the type. The record that is found decides where its letter is the type's.
+// Whether the code is catalogued, and under no record of the type. The record that is found decides where its letter is the type's, and
+// where no two codes are equal, since it is the only one then; else its mark does.
 fn is_mistyped<'a>(
     cat: &'a [u8],
     keys: &'a [u64],
     order: &'a [usize],
     hints: &'a [u16],
+    way: Way,
     n: usize,
+    types: &'a [u8],
     x: u64,
     wanted: u8,
 ) -> bool
-    requires { ⌜ Index (now keys) (now order) n × Fills (now keys) (λ j. nameAt Kind.Catalogo (tableOf (now cat) Kind.Catalogo) j 1) (tableOf (now cat) Kind.Catalogo .count) n ⌝ }
+    requires { ⌜ Ready (now keys) (now order) (now hints) n way × Fills (now keys) (λ j. nameAt Kind.Catalogo (tableOf (now cat) Kind.Catalogo) j 1) (tableOf (now cat) Kind.Catalogo .count) n × Types (now keys) (now order) (now hints) way n (λ j. eqb (letterIn (tableOf (now cat) Kind.Catalogo .says j 2)) wanted) (now types) ⌝ }
     ensures { λ r. ⌜ r ≡ mistyped wanted (tableOf (now (cat .entry)) Kind.Catalogo) x ⌝ }
 {
-    let found = find_hinted(keys, order, hints, n, x);
+    let found = look(keys, order, hints, way, n, x);
     match found {
         Found::Nothing => false,
         Found::At(j) => {
             if letter(cat, Kind::Catalogo, j, 2) == wanted {
                 return false;
             }
-            !typed(cat, x, wanted)
+            if way.apart {
+                return true;
+            }
+            types[j] != 1
         }
     }
 }
 
-// The first of m codes that is mistyped.
-fn first_mistyped_in<'a>(
+// Of m codes those that are mistyped.
+fn mark_mistyped_in<'a>(
     refs: &'a [u64],
     m: usize,
     cat: &'a [u8],
     keys: &'a [u64],
     order: &'a [usize],
     hints: &'a [u16],
+    way: Way,
     n: usize,
+    types: &'a [u8],
     wanted: u8,
-) -> Found
-    requires { ⌜ (m ≤ length (now refs)) × Index (now keys) (now order) n × Fills (now keys) (λ j. nameAt Kind.Catalogo (tableOf (now cat) Kind.Catalogo) j 1) (tableOf (now cat) Kind.Catalogo .count) n ⌝ }
-    ensures { λ r. ⌜ r ≡ foundOf (firstIndex (λ i. mistyped wanted (tableOf (now (cat .entry)) Kind.Catalogo) (getD (now (refs .entry)) i 0)) m) ⌝ }
+    marks: &mut [u8],
+)
+    requires { ⌜ (m ≤ length (now refs)) × (m ≤ length (now marks)) × Ready (now keys) (now order) (now hints) n way × Fills (now keys) (λ j. nameAt Kind.Catalogo (tableOf (now cat) Kind.Catalogo) j 1) (tableOf (now cat) Kind.Catalogo .count) n × Types (now keys) (now order) (now hints) way n (λ j. eqb (letterIn (tableOf (now cat) Kind.Catalogo .says j 2)) wanted) (now types) ⌝ }
+    ensures { λ _. ⌜ Marked (now (marks .entry)) (now (marks .exit)) (λ i. mistyped wanted (tableOf (now (cat .entry)) Kind.Catalogo) (getD (now (refs .entry)) i 0)) m ⌝ }
 {
     let mut i = 0;
     while i < m {
-        if is_mistyped(cat, keys, order, hints, n, refs[i], wanted) {
-            return Found::At(i);
-        }
+        marks[i] = as_mark(is_mistyped(cat, keys, order, hints, way, n, types, refs[i], wanted));
         i += 1;
     }
-    Found::Nothing
 }
 
-// The first record of s whose code is catalogued under another type.
-pub fn first_mistyped<'a>(s: &'a [u8], k: Kind, f: usize, cat: &'a [u8], wanted: u8) -> Found
-    ensures { λ r. ⌜ r ≡ foundOf (firstIndex (λ i. mistyped wanted (tableOf (now (cat .entry)) Kind.Catalogo) (nameAt k (tableOf (now (s .entry)) k) i f)) (tableOf (now (s .entry)) k .count)) ⌝ }
+// The records of s whose code is catalogued under another type.
+pub(crate) fn mark_mistyped<'a>(
+    s: &'a [u8],
+    k: Kind,
+    f: usize,
+    cat: &'a [u8],
+    wanted: u8,
+    marks: &mut [u8],
+)
+    requires { ⌜ limit ≤ length (now marks) ⌝ }
+    ensures { λ _. ⌜ Marked (now (marks .entry)) (now (marks .exit)) (λ i. mistyped wanted (tableOf (now (cat .entry)) Kind.Catalogo) (nameAt k (tableOf (now (s .entry)) k) i f)) (tableOf (now (s .entry)) k .count) ⌝ }
 {
     let mut refs = [0u64; LIMIT];
     let m = fill_names(s, k, f, &mut refs);
     let mut keys = [0u64; LIMIT];
     let n = fill_names(cat, Kind::Catalogo, 1, &mut keys);
+    let mut hints = [0u16; HINTS];
     let mut order = [0usize; LIMIT];
-    if sort(&keys, &mut order, n) {
-        let mut hints = [0u16; HINTS];
-        fill_hints(&keys, &mut hints, n);
-        first_mistyped_in(&refs, m, cat, &keys, &order, &hints, n, wanted)
-    } else {
-        Found::Nothing
-    }
+    let way = prepare(&keys, n, &mut hints, &mut order);
+    let mut types = [0u8; LIMIT];
+    mark_types(cat, &keys, &order, &hints, way, n, wanted, &mut types);
+    mark_mistyped_in(
+        &refs,
+        m,
+        cat,
+        &keys,
+        &order,
+        &hints,
+        way,
+        n,
+        &types,
+        wanted,
+        marks,
+    );
 }

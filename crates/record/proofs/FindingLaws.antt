@@ -12,7 +12,7 @@ use native.Mathlib.Omega.{arith}
 use lib.Dec.{eqb}
 use lib.ListN.{length, getD}
 use borrow.Author.Tests.{eq-eqb, ne-eqb, lt-ltb, le-ltb}
-use Rattle.laws.specs.Find.{hit, firstOf, firstIndex}
+use Rattle.laws.specs.Find.{hit, firstOf, firstIndex, orEnd}
 use Rattle.laws.specs.Nest.{run}
 use Rattle.laws.proofs.FindLaws.{true-false, then, first-start, first-more, first-here, first-none, first-end, first-shift, mapOption, first-map, index-here, index-end, index-some-at}
 use Rattle.record.specs.declared.kind.Kind.{Kind}
@@ -24,7 +24,7 @@ use Rattle.record.specs.declared.reason.Finding.the-variants.{Fine, Brok
 use Rattle.record.specs.Table.{fieldsOf, lengthOf}
 use Rattle.record.specs.Cut.{countOf, recordOf}
 use Rattle.record.specs.Rules.{breaks10, breaks11, twenties}
-use Rattle.record.specs.Breaks.{breakOf, findingOf, fine, orEnd, indexOf, atPlace, shapeBreaks, twentyReasons, recordBreaks, fieldBreaksAt, fieldBreaks, shapeFinding, recordFinding, fieldsFinding}
+use Rattle.record.specs.Breaks.{breakOf, findingOf, fine, indexOf, atPlace, shapeBreaks, twentyReasons, recordBreaks, fieldBreaksAt, fieldBreaks, shapeFinding, recordFinding, fieldsFinding}
 
 fine-none : (o : Option Break) → fine (findingOf o) ≡ true → o ≡ none
 fine-none none e = refl

@@ -7,7 +7,7 @@ use mathlib.Core.List.{List, [], _∷_}
 use mathlib.Core.Option.{Option, none, some}
 use lib.ListN.{length, getD}
 use lib.Dec.{eqb, leb}
-use Rattle.laws.specs.Find.{hit, firstIndex}
+use Rattle.laws.specs.Find.{hit, firstIndex, orEnd}
 use Rattle.laws.specs.Nest.{Nest, leaf, node, run}
 use Rattle.record.specs.declared.kind.Kind.{Kind}
 use Rattle.record.specs.declared.reason.Reason.{Reason}
@@ -59,11 +59,6 @@ findingOf (some b) = Broken b
 abbrev pub fine : Finding → Bool
 fine Fine = true
 fine (Broken b) = false
-
--- an index, and n where there is none
-abbrev pub orEnd : ℕ → Option ℕ → ℕ
-orEnd n none = n
-orEnd n (some i) = i
 
 -- the first of n tests that holds, and n where none does
 unfoldable pub indexOf : List Bool → ℕ → ℕ

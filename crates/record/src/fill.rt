@@ -10,7 +10,8 @@ use crate::cut::part;
 use crate::kind::Kind;
 use crate::names::name;
 ghost use mathlib.Core.Path.{_≡_};
-ghost use Prim.Native.Nat.{ℕ, _-_};
+ghost use Prim.Native.Nat.{ℕ, _-_, _^_};
+ghost use Rattle.laws.specs.Row.{Narrow};
 ghost use Rattle.record.specs.Says.{tableOf, keyIn, placeIn, letterIn};
 ghost use Rattle.record.specs.Table.{keysOf};
 ghost use Rattle.record.specs.Names.{nameAt, keyOf};
@@ -94,6 +95,7 @@ fn sign_field(f: usize) -> usize
 // What is said as a place (a coordinate as one number) in field f of each record of the file.
 pub fn fill_places(s: &[u8], k: Kind, f: usize, out: &mut [u64]) -> usize
     ensures { λ r. ⌜ ReadInto (now (out .entry)) (now (out .exit)) (λ i. placeIn (tableOf (now (s .entry)) k .says i f)) (tableOf (now (s .entry)) k .count) r ⌝ }
+    ensures narrow { λ r. ⌜ Narrow (now (out .exit)) r (2 ^ 40) ⌝ }
 {
     let n = rows(s, k);
     if out.len() < n {

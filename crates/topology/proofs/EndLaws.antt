@@ -4,7 +4,8 @@
 use Prim.Native.Nat.{ℕ, zero, suc, _<_, _≤_, _^_, max}
 use mathlib.Core.Bool.{Bool, true, false, not, _&&_}
 use mathlib.Core.List.{List}
-use mathlib.Core.Path.{_≡_, refl, sym, subst, ap, _∙_}
+use mathlib.Core.Option.{none}
+use mathlib.Core.Path.{_≡_, refl, sym, subst, ap, ap₂, _∙_}
 use mathlib.Core.Logic.{_⊎_, ⊎-elim}
 use native.Mathlib.Nat.{max-le, le-max-left, le-max-right, le-trans, eq-or-lt-of-le, le-of-suc-le-suc}
 use native.Mathlib.Omega.{arith}
@@ -12,9 +13,9 @@ use lib.Dec.{eqb}
 use lib.ListN.{getD}
 use borrow.Author.Tests.{eq-eqb, ne-eqb, eqb-true, eqb-false}
 use Rattle.laws.proofs.RowLaws.{picked}
-use Rattle.laws.specs.Find.{any, firstIndex}
-use Rattle.laws.proofs.FindLaws.{any-true, index-same}
-use Rattle.index.specs.Keys.{listed}
+use Rattle.laws.specs.Find.{any}
+use Rattle.laws.proofs.FindLaws.{any-true}
+use Rattle.index.specs.Keys.{listed, firstDuplicate}
 use Rattle.index.specs.Look.{Sought, keyLine, HighestIn}
 use Rattle.index.specs.declared.Found.{Found}
 use Rattle.index.specs.declared.Found.the-variants.{At, Nothing}
@@ -25,6 +26,7 @@ use Rattle.record.specs.Says.{Table}
 use Rattle.record.specs.machinery.Columns.{Fills}
 use Rattle.record.specs.Names.{nameAt, keyOf}
 use Rattle.keys.proofs.ReferLaws.{names-column}
+use Rattle.topology.proofs.PlaceLaws.{named-apart}
 use Rattle.topology.specs.declared.ends.End.{End}
 use Rattle.topology.specs.declared.ends.End.the-variants.{Start, Last}
 use Rattle.topology.specs.machinery.Ends.{nodeField, endKey, apart}
@@ -81,8 +83,13 @@ module _ {l : List ℕ} {key : ℕ → ℕ} {m n : ℕ} (fills : Fills l key m n
   pub highest-column : (line : ℕ) → highestIn (listed l) line n ≡ highestIn key line m
   highest-column line = rw (fills .count) (highest-same line m (omega arith))
 
-  pub endless-column : (line : ℕ → ℕ) (t : ℕ) → firstIndex (λ i. eqb (highestIn (listed l) (line i) n) 0) t ≡ firstIndex (λ i. eqb (highestIn key (line i) m) 0) t
-  endless-column line t = index-same _ _ t (λ i u. ap (λ (x : ℕ). eqb x 0) (highest-column (line i)))
+  pub endless-column : (line : ℕ) → eqb (highestIn (listed l) line n) 0 ≡ eqb (highestIn key line m) 0
+  endless-column line = ap (λ (x : ℕ). eqb x 0) (highest-column line)
+
+-- a line without a highest vertex, from what the code reads
+pub endless-said :
+    (keys : List ℕ) (n : ℕ) {line l h : ℕ} → l ≡ line → h ≡ highestIn (listed keys) l n → eqb h 0 ≡ eqb (highestIn (listed keys) line n) 0
+endless-said keys n e q = rw (q, e)
 
 -- a tramo's line is a narrow number
 pub line-narrow : {r : ℕ} → (isN (formAt Tramo 4) ≡ true → isN (formAt Tramo 1) ≡ true → r ≤ 2 ^ 38) → r ≤ 2 ^ 38
@@ -123,6 +130,19 @@ module _ (vertices nodes : Table) (key name : ℕ) where
         let at = sought-record keys n key s e in
         let u : j < vertices .count = omega (arith, fills .count) in
         elsewhere-found e (meets-any (sym (any-true _ _ u (meets-key j (fills .holds j u) (at .1) p q h ∙ t))))
+
+    pub elsewhere-apart :
+        {j x y : ℕ} {r : Bool} → firstDuplicate (listed keys) n ≡ none → f ≡ At j → x ≡ xAt Vertice vertices j → y ≡ yAt Vertice vertices j
+        → r ≡ nodeIn nodes name x y → r ≡ false → true ≡ elsewhere vertices nodes key name
+    unfolding meets
+    elsewhere-apart d e p q h t =
+        elsewhere-found e
+        (named-apart fills key s (λ j. nodeIn nodes name (xAt Vertice vertices j) (yAt Vertice vertices j)) d e
+        (ap₂ (nodeIn nodes name) (sym p) (sym q) ∙ sym h ∙ t))
+
+-- the ends are two
+pub start-last : Start ≡ Last → ⊥
+start-last e = let h = ap nodeField e in omega arith
 
 -- AN END of tramo i, from what the code reads of it
 pub apart-said :

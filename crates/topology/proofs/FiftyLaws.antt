@@ -1,22 +1,24 @@
--- The cells of the fifties (specs/Rules.antt) as the code finds their first records: a cell is that of the rule which stands there,
--- where none does there is nothing. The reasons with their data.
+-- The cells of the fifties (specs/Rules.antt) as the code finds their first records, or marks all: a cell is that of the rule which
+-- stands there, where none does there is nothing. The reasons with their data.
 -- Assumes nothing.
-use Prim.Native.Nat.{ℕ, zero, suc, _+_, _-_, _≤_}
+use Prim.Native.Nat.{ℕ, zero, suc, _+_, _≤_}
 use mathlib.Core.Bool.{Bool, true, false, _&&_}
 use mathlib.Core.List.{List, [], _∷_}
 use mathlib.Core.Option.{Option, none, some}
-use mathlib.Core.Path.{_≡_, refl, sym, _∙_}
+use mathlib.Core.Path.{_≡_, refl, sym, ap, _∙_}
 use native.Mathlib.Numerals.{add-one}
 use native.Mathlib.Omega.{arith}
 use lib.Dec.{eqb}
 use lib.ListN.{getD}
 use borrow.Author.Tests.{eq-eqb, eqb-true}
 use Rattle.laws.specs.Find.{firstIndex}
-use Rattle.laws.proofs.FindLaws.{true-false, index-some-at}
+use Rattle.laws.proofs.FindLaws.{true-false, index-none, index-some-at}
 use Rattle.laws.proofs.RowLaws.{and-true}
 use Rattle.index.specs.declared.Found.{Found}
 use Rattle.index.specs.declared.Found.the-variants.{Nothing}
 use Rattle.index.specs.Keys.{foundOf}
+use Rattle.index.specs.Marks.{Marked, isMarked}
+use Rattle.index.proofs.MarkLaws.{marked-first}
 use Rattle.record.specs.declared.kind.Kind.{Kind}
 use Rattle.record.specs.declared.kind.Kind.the-variants.{ObPun, ObLin, Tramo, Vertice, Nodo}
 use Rattle.record.specs.declared.reason.Reason.the-variants.{LongFile10, SamePlace54}
@@ -25,7 +27,7 @@ use Rattle.record.proofs.TableLaws.{NoneOf, file-same}
 use Rattle.record.specs.Says.{Table}
 use Rattle.record.specs.Files.{Delivery}
 use Rattle.keys.specs.Rules.{orFirst}
-use Rattle.keys.proofs.KeyCells.{first-false}
+use Rattle.keys.specs.machinery.Marks.{MarkedWhere}
 use Rattle.topology.specs.machinery.Places.{orIndex}
 use Rattle.topology.specs.Rules.{isAt, samePlace, breaks50, breaks51, breaks52, breaks53, breaks54, breaks55, breaks56, breaks57, breaks59, fifties, reasonsAt}
 
@@ -96,8 +98,26 @@ module _ (d : Delivery) (k : Kind) (f u : ℕ) where
       let at = read-at file field k f (sym e ∙ w .0) in
       rw (at .0, at .1, eqb-true u v (w .1)) q
 
-  pub in-none : Free k f u → Nothing ≡ cell d k f u
-  in-none o = first-false _ _ (λ i. else-default (free-tests d i o))
+  -- what it marked
+  pub in-marks :
+      (file : Kind) (field v : ℕ) {b : Bool} {before after : List ℕ} → b ≡ isAt file field k f → (b && eqb u v) ≡ true
+      → Marked before after (λ i. getD (fifties d file i field) v false) (d file .count)
+      → MarkedWhere true before after (λ i. getD (fifties d k i f) u false) (d k .count)
+  in-marks file field v {b = b} e h q =
+      let w = and-true b (eqb u v) h in
+      let at = read-at file field k f (sym e ∙ w .0) in
+      record { long = q .long; marked = λ t. rw (at .0, at .1, eqb-true u v (w .1)) q; nowhere = λ t. absurd (true-false t) }
+
+  pub in-none : {marks : List ℕ} → Free k f u → MarkedWhere false marks marks (λ i. getD (fifties d k i f) u false) (d k .count)
+  in-none o = record { long = refl; marked = λ t. absurd (true-false (sym t)); nowhere = λ t i. else-default (free-tests d i o) }
+
+-- THE FIRST that is marked is the first at which the test holds
+module _ {r : Bool} {before after : List ℕ} {test : ℕ → Bool} {n : ℕ} (w : MarkedWhere r before after test n) where
+  pub marks-found : {m : ℕ} {g : Found} → r ≡ true → m ≡ n → g ≡ foundOf (firstIndex (isMarked after) m) → g ≡ foundOf (firstIndex test n)
+  marks-found t e q = q ∙ rw e (ap foundOf (marked-first (w .marked t)))
+
+  pub marks-nothing : r ≡ false → Nothing ≡ foundOf (firstIndex test n)
+  marks-nothing t = ap foundOf (sym (index-none test n (λ i l. w .nowhere t i)))
 
 -- THE REASONS
 first-index : (o : Option ℕ) → orIndex (foundOf o) ≡ orFirst o

@@ -5,3 +5,4 @@ pub mod EndLaws
 pub mod FiftyLaws
 pub mod Meaning
 pub mod Agree
+pub mod SpotLaws

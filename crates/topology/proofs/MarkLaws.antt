@@ -9,14 +9,9 @@ use borrow.Author.Count.{below-more}
 use lib.Dec.{eqb}
 use lib.ListN.{length, getD, set, replicate, length-set, getD-replicate}
 use lib.Seq.{getD-set-same, getD-set-other}
-use Rattle.laws.specs.Find.{firstIndex}
-use Rattle.laws.proofs.FindLaws.{index-same}
-use Rattle.index.specs.Keys.{foundOf}
-use Rattle.index.specs.Order.{Index, Sorts}
-use Rattle.index.specs.declared.Found.{Found}
+use Rattle.index.specs.Marks.{Marked}
+use Rattle.index.proofs.MarkLaws.{marked-as}
 use Rattle.record.specs.Table.{limit}
-use Rattle.record.specs.machinery.Columns.{Fills}
-use Rattle.keys.proofs.ReferLaws.{fills-room}
 use Rattle.topology.specs.machinery.Places.{Marks}
 
 -- THE LOOP: of n records the first i are marked where the test holds, and the array is else as it was
@@ -71,10 +66,6 @@ module _ {before : List ℕ} {test : ℕ → Bool} {n : ℕ} {after : List ℕ} 
   pub marking-end : {k : ℕ} → length before ≡ limit → n ≤ i → n ≡ k → Marks before after test k
   marking-end l u e = record { long = m .long ∙ sym l; marked = λ j v. m .marked j (omega arith) }
 
--- AN INDEX of a column in an array: the sort has room
-pub sorted-column : {l before order : List ℕ} {key : ℕ → ℕ} {m n : ℕ} {r : Bool} → Fills l key m n → n ≤ length order → Sorts l before order n r → Index l order n
-sorted-column fills u s = s .index (s .room (fills-room fills) u)
-
 -- A TEST that is equal to another
 pub marks-same : {before after : List ℕ} {p q : ℕ → Bool} {n : ℕ} → ((i : ℕ) → p i ≡ q i) → Marks before after p n → Marks before after q n
 marks-same {before} same m =
@@ -93,13 +84,9 @@ marks-then {a} {p = p} {q = q} m w =
       marked = λ i u. w .marked i u ∙ ap (λ (z : Bool). z && not (q i)) (m .marked i u) ∙ neither (eqb (getD a i 0) 0) (p i) (q i);
     }
 
--- THE FIRST of n that is not marked, where at the start none was
-pub unmarked-first :
-    {after : List ℕ} {test : ℕ → Bool} {m n : ℕ} {r : Found} → Marks (replicate limit 0) after test m → n ≤ limit → n ≡ m
-    → r ≡ foundOf (firstIndex (λ i. eqb (getD after i 0) 0) n) → r ≡ foundOf (firstIndex (λ i. not (test i)) m)
-unmarked-first {test = test} {m = m} w small e h =
-    h
-    ∙ rw e
-    (ap foundOf
-    (index-same _ _ m
-    (λ i u. w .marked i u ∙ ap (λ (z : ℕ). eqb z 0 && not (test i)) (getD-replicate limit i 0 0 (omega arith)))))
+-- THE RECORDS that are not marked, where at the start none was
+pub unused-marks :
+    {used before marks : List ℕ} {test : ℕ → Bool} {m n : ℕ} → Marks (replicate limit 0) used test m → n ≤ limit → n ≡ m
+    → Marked before marks (λ i. eqb (getD used i 0) 0) n → Marked before marks (λ i. not (test i)) m
+unused-marks {test = test} {m = m} w small e h =
+    marked-as (λ i u. w .marked i u ∙ ap (λ (z : ℕ). eqb z 0 && not (test i)) (getD-replicate limit i 0 0 (omega arith))) (rw e at h)

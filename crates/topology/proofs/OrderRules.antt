@@ -1,15 +1,16 @@
--- The laws of vertex numbering (specs/Rules.antt, 50 and 51): each rule by cases of the order, and a search over the array of the
--- keys carried to the column that fills it.
+-- The laws of vertex numbering (specs/Rules.antt, 50 and 51): each rule by cases of the order, and marks over the array of the
+-- keys as over the column that fills it.
 -- Assumes nothing.
 use Prim.Native.Nat.{ℕ, _+_, _-_, _<_, _≤_}
 use mathlib.Core.Bool.{Bool, true, false, not}
 use mathlib.Core.List.{List}
-use mathlib.Core.Path.{_≡_, ap, _∙_}
+use mathlib.Core.Path.{_≡_}
+use native.Mathlib.Omega.{arith}
 use borrow.Author.Tests.{eq-eqb, ne-eqb, lt-ltb, le-ltb}
-use Rattle.laws.specs.Find.{firstIndex, names}
-use Rattle.laws.proofs.FindLaws.{index-same}
-use Rattle.index.specs.Keys.{listed, foundOf}
-use Rattle.index.specs.declared.Found.{Found}
+use Rattle.laws.specs.Find.{names}
+use Rattle.index.specs.Keys.{listed}
+use Rattle.index.specs.Marks.{Marked}
+use Rattle.index.proofs.MarkLaws.{marked-as, marked-end}
 use Rattle.record.specs.machinery.Columns.{Fills}
 use Rattle.keys.proofs.ReferLaws.{names-column}
 use Rattle.topology.specs.Rules.{orderOf, gap, unpaired}
@@ -39,8 +40,8 @@ module _ (key : ℕ → ℕ) (n i : ℕ) where
 
 -- THE ARRAY as the column
 module _ {l : List ℕ} {key : ℕ → ℕ} {m n : ℕ} (fills : Fills l key m n) where
-  pub found-column : {r : Found} (p q : ℕ → Bool) → r ≡ foundOf (firstIndex p n) → ((i : ℕ) → i < m → p i ≡ q i) → r ≡ foundOf (firstIndex q m)
-  found-column p q e same = e ∙ rw (fills .count) (ap foundOf (index-same p q m same))
+  pub marks-column : {before after : List ℕ} (p q : ℕ → Bool) → Marked before after p n → ((i : ℕ) → i < m → p i ≡ q i) → Marked before after q m
+  marks-column p q s same = marked-as same (marked-end m (fills .count) (omega arith) s)
 
   pub gap-column : (i : ℕ) → i < m → gap (listed l) n i ≡ gap key m i
   unfolding gap

@@ -1,33 +1,43 @@
 -- The laws of look-ups that a scan backs: an index over a column of numbers tells whether a test holds of a record, where the records
 -- of which it holds have the number looked up. Equal places have equal numbers.
 -- Assumes nothing.
-use Prim.Native.Nat.{ℕ, _<_}
+use Prim.Native.Nat.{ℕ, _<_, _≤_}
 use mathlib.Core.Bool.{Bool, true, false, _&&_}
 use mathlib.Core.List.{List}
 use mathlib.Core.Option.{none}
-use mathlib.Core.Path.{_≡_, refl, sym, ap₂, _∙_}
+use mathlib.Core.Path.{_≡_, refl, sym, _∙_}
+use mathlib.Core.Logic.{⊎-elim}
 use native.Mathlib.Omega.{arith}
 use lib.Dec.{eqb}
 use lib.ListN.{getD}
 use borrow.Author.Tests.{eqb-true, eqb-false, eq-eqb}
-use Rattle.laws.specs.Find.{firstIndex, any, names}
-use Rattle.laws.proofs.FindLaws.{any-true, any-false, any-no, index-of-any}
+use Rattle.laws.specs.Find.{any, names}
+use Rattle.laws.proofs.FindLaws.{any-true, any-false, any-no, index-none-at}
 use Rattle.laws.proofs.RowLaws.{and-true}
-use Rattle.index.specs.Keys.{foundOf, duplicateIn}
+use Rattle.index.specs.Keys.{listed, firstDuplicate}
 use Rattle.index.specs.Look.{Sought}
 use Rattle.index.specs.declared.Found.{Found}
 use Rattle.index.specs.declared.Found.the-variants.{At, Nothing}
+use Rattle.index.proofs.OrderLaws.{less-or}
 use Rattle.index.proofs.LookLaws.{sought-record, sought-none}
-use Rattle.index.proofs.TwiceLaws.{no-pair}
 use Rattle.record.specs.declared.kind.Kind.the-variants.{Nodo}
 use Rattle.record.specs.Says.{Table}
 use Rattle.record.specs.machinery.Columns.{Fills}
-use Rattle.keys.specs.Rules.{repeats}
 use Rattle.keys.proofs.ReferLaws.{names-column}
-use Rattle.keys.proofs.FoundLaws.{any-of-nothing}
-use Rattle.keys.proofs.RepeatLaws.{repeat-filled}
-use Rattle.topology.specs.machinery.Places.{positionOf, spotOf}
+use Rattle.topology.specs.machinery.Places.{spotOf}
 use Rattle.topology.specs.Rules.{xAt, yAt, zAt, samePlace, placedBefore}
+
+-- NUMBERS APART: two records with one number are one
+one-record : (key : ℕ → ℕ) (n : ℕ) → firstDuplicate key n ≡ none → (a b : ℕ) → a < n → b < n → key a ≡ key b → a ≡ b
+one-record key n d a b la lb e =
+    ⊎-elim
+    (λ (l : a < b). absurd (earlier a b l lb e))
+    (λ (u : b ≤ a). ⊎-elim (λ (l : b < a). absurd (earlier b a l la (sym e))) (λ (v : a ≤ b). omega arith) (less-or b a))
+    (less-or a b)
+  where
+    earlier : (a b : ℕ) → a < b → b < n → key a ≡ key b → ⊥
+    earlier a b l lb e =
+        eqb-false (key a) (key b) (any-no (λ k. eqb (key k) (key b)) b (index-none-at (λ r. names key r (key r)) n d lb) l) e
 
 -- A LOOK-UP of the number x in a column, f its answer
 module _ {l : List ℕ} {key : ℕ → ℕ} {m n : ℕ} (fills : Fills l key m n) (x : ℕ) {f : Found} (s : Sought l n x f) where
@@ -63,11 +73,15 @@ module _ {l : List ℕ} {key : ℕ → ℕ} {m n : ℕ} (fills : Fills l key m n
         let r = looked-at e in
         sym (any-true _ m (r .0) (rw (eq-eqb (key j) x (r .1)) h))
 
--- EQUAL PLACES have equal positions
-pub same-position : (a b x y : ℕ) → (eqb a x && eqb b y) ≡ true → positionOf a b ≡ positionOf x y
-same-position a b x y e =
-    let h = and-true (eqb a x) (eqb b y) e in
-    ap₂ positionOf (eqb-true a x (h .0)) (eqb-true b y (h .1))
+    -- where no two numbers are equal, the record found is the only one that has it
+    pub named-apart : {j : ℕ} → firstDuplicate (listed l) n ≡ none → f ≡ At j → p j ≡ false → false ≡ any (λ j. eqb (key j) x && p j) m
+    named-apart {j} d e h =
+        let r = sought-record l n x s e in
+        sym (any-false _ m (λ k u. go k (eqb (key k) x) refl (λ q. one-record (listed l) n d k j (omega (arith, fills .count)) (r .0) (fills .holds k u ∙ q ∙ sym (r .1)))))
+      where
+        go : (k : ℕ) (t : Bool) → eqb (key k) x ≡ t → (key k ≡ x → k ≡ j) → (t && p k) ≡ false
+        go k true q same = rw (same (eqb-true (key k) x q)) h
+        go k false q same = refl
 
 -- NODES AT ONE PLACE have one spot; where no spot is repeated, none is at an earlier one's place
 abbrev pub spotAt : Table → ℕ → ℕ
@@ -95,11 +109,3 @@ spot-new t {l} {n} {i} fills u e =
             absurd
             (eqb-false (getD l j 0) (getD l i 0) (any-no _ i e w)
             (fills .holds j (omega (arith, fills .count)) ∙ same-spot t i j q ∙ sym (fills .holds i (omega (arith, fills .count)))))
-
--- of all, where no spot is repeated
-pub spots-apart : (t : Table) {l : List ℕ} {n : ℕ} {found : Found} → Fills l (spotAt t) (t .count) n → found ≡ foundOf (duplicateIn l n) → found ≡ Nothing
-    → firstIndex (placedBefore t) (t .count) ≡ none
-unfolding placedBefore repeats
-spots-apart t {l} {n} fills e h =
-    no-pair (λ j i. samePlace t i j) (spotAt t) (t .count) (λ j i s. same-spot t i j s)
-    (index-of-any (λ i. repeats (spotAt t) i) (t .count) (any-of-nothing (λ i. repeats (spotAt t) i) (t .count) (repeat-filled (spotAt t) fills e) h))

@@ -1,21 +1,24 @@
 // The first break of the fifties in a file and in a delivery, by cells as keys has it.
 use crate::ends::End;
-use crate::ends::first_astray;
-use crate::ends::first_elsewhere;
-use crate::ends::first_endless;
-use crate::nodes::first_idle_node;
-use crate::nodes::first_idle_object;
-use crate::nodes::first_repeat_place;
+use crate::ends::mark_astray;
+use crate::ends::mark_elsewhere;
+use crate::ends::mark_endless;
+use crate::nodes::mark_idle_nodes;
+use crate::nodes::mark_idle_objects;
 use crate::nodes::place_before;
-use crate::orders::first_alone;
-use crate::orders::first_gap;
+use crate::orders::mark_alone;
+use crate::orders::mark_gaps;
+use crate::spots::mark_same_place;
 use index::Found;
+use index::marks::first_marked;
 use keys::group::Best;
 use keys::group::better;
 use record::check::break_of;
+use record::columns::rows;
 use record::files::file_of;
 use record::kind::FILES;
 use record::kind::Kind;
+use record::kind::LIMIT;
 use record::kind::Which;
 use record::kind::kind_of;
 use record::reason::Finding;
@@ -24,9 +27,11 @@ ghost use mathlib.Core.Path.{_≡_};
 ghost use mathlib.Core.Bool.{false, _&&_};
 ghost use mathlib.Core.List.{List, map};
 ghost use Prim.Native.Nat.{ℕ, _≤_, _<_};
-ghost use lib.ListN.{getD};
+ghost use lib.ListN.{length, getD};
 ghost use Rattle.laws.specs.Find.{firstIndex};
 ghost use Rattle.index.specs.Keys.{foundOf};
+ghost use Rattle.keys.specs.machinery.Marks.{MarkedWhere};
+ghost use Rattle.topology.specs.machinery.Marks.{OfLines};
 ghost use Rattle.topology.specs.machinery.Places.{orIndex};
 ghost use Rattle.record.specs.Table.{limit};
 ghost use Rattle.record.specs.Files.{filesOf, deliveryOf};
@@ -41,43 +46,78 @@ fn is_at(file: Kind, field: usize, k: Kind, f: usize) -> bool
     (k.number() == file.number()) & (f == field)
 }
 
-// The first record of file k that breaks the reason 50 + u at field f.
-fn first_in<'a>(k: Kind, f: usize, u: usize, files: [&'a [u8]; FILES]) -> Found
-    ensures { λ r. ⌜ r ≡ foundOf (firstIndex (λ i. getD (fifties (deliveryOf (filesOf (map now (files .entry)))) k i f) u false) (deliveryOf (filesOf (map now (files .entry))) k .count)) ⌝ }
+// Marks the records of file k that break the reason 50 + u at field f, of the reasons of vertices, tramos and point objects. False where
+// no record can break it there.
+fn mark_line_in<'a>(k: Kind, f: usize, u: usize, files: [&'a [u8]; FILES], marks: &mut [u8]) -> bool
+    requires { ⌜ (limit ≤ length (now marks)) × OfLines k f u ⌝ }
+    ensures { λ r. ⌜ MarkedWhere r (now (marks .entry)) (now (marks .exit)) (λ i. getD (fifties (deliveryOf (filesOf (map now (files .entry)))) k i f) u false) (deliveryOf (filesOf (map now (files .entry))) k .count) ⌝ }
+{
+    let ob_pun = file_of(files, Kind::ObPun);
+    let tramo = file_of(files, Kind::Tramo);
+    let vertice = file_of(files, Kind::Vertice);
+    let nodo = file_of(files, Kind::Nodo);
+    if is_at(Kind::Vertice, 2, k, f) & (u == 0) {
+        mark_gaps(vertice, marks);
+        return true;
+    }
+    if is_at(Kind::Vertice, 2, k, f) & (u == 1) {
+        mark_alone(vertice, marks);
+        return true;
+    }
+    if is_at(Kind::Tramo, 6, k, f) & (u == 2) {
+        mark_elsewhere(End::Start, tramo, vertice, nodo, marks);
+        return true;
+    }
+    if is_at(Kind::Tramo, 7, k, f) & (u == 3) {
+        mark_elsewhere(End::Last, tramo, vertice, nodo, marks);
+        return true;
+    }
+    if is_at(Kind::ObPun, 3, k, f) & (u == 5) {
+        mark_astray(ob_pun, nodo, marks);
+        return true;
+    }
+    if is_at(Kind::Tramo, 4, k, f) & (u == 9) {
+        mark_endless(tramo, vertice, marks);
+        return true;
+    }
+    false
+}
+
+// Marks the records of file k that break the reason 50 + u at field f. False where no record can break it there.
+fn mark_in<'a>(k: Kind, f: usize, u: usize, files: [&'a [u8]; FILES], marks: &mut [u8]) -> bool
+    requires { ⌜ limit ≤ length (now marks) ⌝ }
+    ensures { λ r. ⌜ MarkedWhere r (now (marks .entry)) (now (marks .exit)) (λ i. getD (fifties (deliveryOf (filesOf (map now (files .entry)))) k i f) u false) (deliveryOf (filesOf (map now (files .entry))) k .count) ⌝ }
 {
     let ob_pun = file_of(files, Kind::ObPun);
     let ob_lin = file_of(files, Kind::ObLin);
     let tramo = file_of(files, Kind::Tramo);
     let vertice = file_of(files, Kind::Vertice);
     let nodo = file_of(files, Kind::Nodo);
-    if is_at(Kind::Vertice, 2, k, f) & (u == 0) {
-        return first_gap(vertice);
-    }
-    if is_at(Kind::Vertice, 2, k, f) & (u == 1) {
-        return first_alone(vertice);
-    }
-    if is_at(Kind::Tramo, 6, k, f) & (u == 2) {
-        return first_elsewhere(End::Start, tramo, vertice, nodo);
-    }
-    if is_at(Kind::Tramo, 7, k, f) & (u == 3) {
-        return first_elsewhere(End::Last, tramo, vertice, nodo);
-    }
     if is_at(Kind::Nodo, 0, k, f) & (u == 4) {
-        return first_repeat_place(nodo);
-    }
-    if is_at(Kind::ObPun, 3, k, f) & (u == 5) {
-        return first_astray(ob_pun, nodo);
+        mark_same_place(nodo, marks);
+        return true;
     }
     if is_at(Kind::Nodo, 0, k, f) & (u == 6) {
-        return first_idle_node(ob_pun, tramo, vertice, nodo);
+        mark_idle_nodes(ob_pun, tramo, vertice, nodo, marks);
+        return true;
     }
     if is_at(Kind::ObLin, 0, k, f) & (u == 7) {
-        return first_idle_object(ob_lin, tramo);
+        mark_idle_objects(ob_lin, tramo, marks);
+        return true;
     }
-    if is_at(Kind::Tramo, 4, k, f) & (u == 9) {
-        return first_endless(tramo, vertice);
+    mark_line_in(k, f, u, files, marks)
+}
+
+// The first record of file k that breaks the reason 50 + u at field f.
+fn first_in<'a>(k: Kind, f: usize, u: usize, files: [&'a [u8]; FILES]) -> Found
+    ensures { λ r. ⌜ r ≡ foundOf (firstIndex (λ i. getD (fifties (deliveryOf (filesOf (map now (files .entry)))) k i f) u false) (deliveryOf (filesOf (map now (files .entry))) k .count)) ⌝ }
+{
+    let mut marks = [0u8; LIMIT];
+    if mark_in(k, f, u, files, &mut marks) {
+        first_marked(&marks, rows(file_of(files, k), k))
+    } else {
+        Found::Nothing
     }
-    Found::Nothing
 }
 
 // A found index, and 0 where there is none.

@@ -4,3 +4,4 @@ pub mod group;
 pub mod nodes;
 pub mod orders;
 pub mod places;
+mod spots;

@@ -1,36 +1,39 @@
-// Nodes and linear objects in use: reasons 54, 56 and 57.
-use crate::places::fill_positions;
-use crate::places::has_placed;
+// Nodes and linear objects in use: reasons 56 and 57; and what 54 shows, the first node at a place.
 use crate::places::x_at;
 use crate::places::y_at;
 use crate::places::z_at;
 use index::Found;
 use index::HINTS;
-use index::hint::fill_hints;
-use index::hint::has_hinted;
-use index::order::sort;
-use index::twice::duplicate;
+use index::marks::as_mark;
+use index::pairs::fill_pairs;
+use index::pairs::has_pair;
+use index::way::Way;
+use index::way::is_there;
+use index::way::prepare;
 use record::columns::rows;
 use record::fill::fill_names;
+use record::fill::fill_places;
 use record::kind::Kind;
 use record::kind::LIMIT;
 use record::names::name;
 ghost use mathlib.Core.Path.{_≡_};
-ghost use mathlib.Core.Bool.{not, _||_};
+ghost use mathlib.Core.Bool.{not, _&&_, _||_};
 ghost use mathlib.Core.List.{List};
 ghost use Prim.Native.Nat.{ℕ, _+_, _*_, _%_, _≤_, _<_, _^_};
 ghost use lib.Dec.{eqb};
 ghost use lib.ListN.{length, getD};
-ghost use Rattle.laws.specs.Find.{firstIndex, names};
+ghost use Rattle.laws.specs.Find.{firstIndex, any, names};
 ghost use Rattle.laws.specs.Row.{pick};
 ghost use Rattle.index.specs.Keys.{foundOf};
-ghost use Rattle.index.specs.Order.{Index};
+ghost use Rattle.index.specs.Marks.{Marked};
+ghost use Rattle.index.specs.Pairs.{Pairs};
+ghost use Rattle.index.specs.Way.{Ready};
 ghost use Rattle.record.specs.Table.{limit};
 ghost use Rattle.record.specs.Says.{tableOf};
 ghost use Rattle.record.specs.machinery.Columns.{Fills};
 ghost use Rattle.record.specs.Names.{nameAt};
 ghost use Rattle.topology.specs.Rules.{xAt, yAt, zAt, placed, samePlace, placedBefore, nodeUsed, objectIdle};
-ghost use Rattle.topology.specs.machinery.Places.{positionOf, spotOf, Marks};
+ghost use Rattle.topology.specs.machinery.Places.{spotOf, Marks};
 
 // Whether node j has the X, Y and Z of node i.
 fn same_place(nodo: &[u8], i: usize, j: usize) -> bool
@@ -62,67 +65,6 @@ pub fn spot(x: u64, y: u64, z: u64) -> u64
     (x % 2147483648 * 4093082899 + y % 8589934583) % 68719476731 * 268435456 + z % 268435456
 }
 
-fn fill_spots(nodo: &[u8], out: &mut [u64; LIMIT]) -> usize
-    requires { ⌜ length (now out) ≡ limit ⌝ }
-    ensures { λ r. ⌜ Fills (now (out .exit)) (λ i. spotOf (xAt Kind.Nodo (tableOf (now (nodo .entry)) Kind.Nodo) i) (yAt Kind.Nodo (tableOf (now (nodo .entry)) Kind.Nodo) i) (zAt Kind.Nodo (tableOf (now (nodo .entry)) Kind.Nodo) i)) (tableOf (now (nodo .entry)) Kind.Nodo .count) r ⌝ }
-{
-    let k = Kind::Nodo;
-    let n = rows(nodo, k);
-    let mut i = 0;
-    while i < n {
-        out[i] = spot(x_at(nodo, k, i), y_at(nodo, k, i), z_at(nodo, k, i));
-        i += 1;
-    }
-    n
-}
-
-// Whether one of the first i numbers is number i.
-fn spot_before(spots: &[u64], i: usize) -> bool
-    requires { ⌜ i < length (now spots) ⌝ }
-    ensures { λ r. ⌜ r ≡ names (λ j. getD (now (spots .entry)) j 0) i (getD (now (spots .entry)) i 0) ⌝ }
-{
-    let x = spots[i];
-    let mut j = 0;
-    while j < i {
-        if spots[j] == x {
-            return true;
-        }
-        j += 1;
-    }
-    false
-}
-
-// The first node at an earlier one's place, by scans within a scan. Nodes are read only where an earlier one has their number.
-fn scan_repeat<'a>(nodo: &'a [u8], spots: &'a [u64], n: usize) -> Found
-    requires { ⌜ Fills (now spots) (λ i. spotOf (xAt Kind.Nodo (tableOf (now nodo) Kind.Nodo) i) (yAt Kind.Nodo (tableOf (now nodo) Kind.Nodo) i) (zAt Kind.Nodo (tableOf (now nodo) Kind.Nodo) i)) (tableOf (now nodo) Kind.Nodo .count) n ⌝ }
-    ensures { λ r. ⌜ r ≡ foundOf (firstIndex (placedBefore (tableOf (now (nodo .entry)) Kind.Nodo)) (tableOf (now (nodo .entry)) Kind.Nodo .count)) ⌝ }
-{
-    let mut i = 0;
-    while i < n {
-        if spot_before(spots, i) {
-            let before = place_before(nodo, i);
-            if let Found::At(_) = before {
-                return Found::At(i);
-            }
-        }
-        i += 1;
-    }
-    Found::Nothing
-}
-
-// 54: the first node at an earlier one's place. Where no two nodes have one number there is none.
-pub(crate) fn first_repeat_place(nodo: &[u8]) -> Found
-    ensures { λ r. ⌜ r ≡ foundOf (firstIndex (placedBefore (tableOf (now (nodo .entry)) Kind.Nodo)) (tableOf (now (nodo .entry)) Kind.Nodo .count)) ⌝ }
-{
-    let mut spots = [0u64; LIMIT];
-    let n = fill_spots(nodo, &mut spots);
-    let found = duplicate(&spots, n);
-    match found {
-        Found::Nothing => Found::Nothing,
-        Found::At(_) => scan_repeat(nodo, &spots, n),
-    }
-}
-
 // Marks the records of s whose field f is a name in hand.
 fn mark_named<'a>(
     s: &'a [u8],
@@ -131,16 +73,17 @@ fn mark_named<'a>(
     keys: &'a [u64],
     order: &'a [usize],
     hints: &'a [u16],
+    way: Way,
     n: usize,
     used: &mut [u64; LIMIT],
 )
-    requires { ⌜ Index (now keys) (now order) n × (length (now used) ≡ limit) ⌝ }
+    requires { ⌜ Ready (now keys) (now order) (now hints) n way × (length (now used) ≡ limit) ⌝ }
     ensures { λ _. ⌜ Marks (now (used .entry)) (now (used .exit)) (λ i. names (λ j. getD (now (keys .entry)) j 0) n (nameAt k (tableOf (now (s .entry)) k) i f)) (tableOf (now (s .entry)) k .count) ⌝ }
 {
     let m = rows(s, k);
     let mut i = 0;
     while i < m {
-        if has_hinted(keys, order, hints, n, name(s, k, i, f)) {
+        if is_there(keys, order, hints, way, n, name(s, k, i, f)) {
             used[i] = 1;
         }
         i += 1;
@@ -162,32 +105,49 @@ fn mark_names<'a>(
 {
     let mut keys = [0u64; LIMIT];
     let n = fill_names(to, other, g, &mut keys);
-    let mut order = [0usize; LIMIT];
-    sort(&keys, &mut order, n);
     let mut hints = [0u16; HINTS];
-    fill_hints(&keys, &mut hints, n);
-    mark_named(s, k, f, &keys, &order, &hints, n, used);
+    let mut order = [0usize; LIMIT];
+    let way = prepare(&keys, n, &mut hints, &mut order);
+    mark_named(s, k, f, &keys, &order, &hints, way, n, used);
 }
 
-// Marks the nodes at the X and Y of a vertex, with the vertices' positions in hand.
+// Marks the nodes at the X and Y of one of n vertices, with the columns of their places in hand.
 fn mark_placed<'a>(
     nodo: &'a [u8],
-    vertice: &'a [u8],
-    positions: &'a [u64],
+    xs: &'a [u64],
     order: &'a [usize],
     hints: &'a [u16],
+    way: Way,
+    ys: &'a [u64],
+    pairs: &'a [u64],
+    pair_order: &'a [usize],
+    pair_hints: &'a [u16],
+    pair_way: Way,
     n: usize,
     used: &mut [u64; LIMIT],
 )
-    requires { ⌜ Index (now positions) (now order) n × Fills (now positions) (λ i. positionOf (xAt Kind.Vertice (tableOf (now vertice) Kind.Vertice) i) (yAt Kind.Vertice (tableOf (now vertice) Kind.Vertice) i)) (tableOf (now vertice) Kind.Vertice .count) n × (length (now used) ≡ limit) ⌝ }
-    ensures { λ _. ⌜ Marks (now (used .entry)) (now (used .exit)) (λ i. placed Kind.Vertice (tableOf (now (vertice .entry)) Kind.Vertice) (tableOf (now (vertice .entry)) Kind.Vertice .count) (xAt Kind.Nodo (tableOf (now (nodo .entry)) Kind.Nodo) i) (yAt Kind.Nodo (tableOf (now (nodo .entry)) Kind.Nodo) i)) (tableOf (now (nodo .entry)) Kind.Nodo .count) ⌝ }
+    requires { ⌜ Ready (now xs) (now order) (now hints) n way × (n ≤ length (now ys)) × Pairs (now xs) (now ys) (now pairs) n × Ready (now pairs) (now «pair_order») (now «pair_hints») n «pair_way» × (length (now used) ≡ limit) ⌝ }
+    ensures { λ _. ⌜ Marks (now (used .entry)) (now (used .exit)) (λ i. any (λ j. eqb (getD (now (xs .entry)) j 0) (xAt Kind.Nodo (tableOf (now (nodo .entry)) Kind.Nodo) i) && eqb (getD (now (ys .entry)) j 0) (yAt Kind.Nodo (tableOf (now (nodo .entry)) Kind.Nodo) i)) n) (tableOf (now (nodo .entry)) Kind.Nodo .count) ⌝ }
 {
     let m = rows(nodo, Kind::Nodo);
     let mut i = 0;
     while i < m {
         let x = x_at(nodo, Kind::Nodo, i);
         let y = y_at(nodo, Kind::Nodo, i);
-        if has_placed(vertice, Kind::Vertice, positions, order, hints, n, x, y) {
+        if has_pair(
+            xs,
+            order,
+            hints,
+            way,
+            ys,
+            pairs,
+            pair_order,
+            pair_hints,
+            pair_way,
+            n,
+            x,
+            y,
+        ) {
             used[i] = 1;
         }
         i += 1;
@@ -199,52 +159,72 @@ fn mark_places<'a>(nodo: &'a [u8], vertice: &'a [u8], used: &mut [u64; LIMIT])
     requires { ⌜ length (now used) ≡ limit ⌝ }
     ensures { λ _. ⌜ Marks (now (used .entry)) (now (used .exit)) (λ i. placed Kind.Vertice (tableOf (now (vertice .entry)) Kind.Vertice) (tableOf (now (vertice .entry)) Kind.Vertice .count) (xAt Kind.Nodo (tableOf (now (nodo .entry)) Kind.Nodo) i) (yAt Kind.Nodo (tableOf (now (nodo .entry)) Kind.Nodo) i)) (tableOf (now (nodo .entry)) Kind.Nodo .count) ⌝ }
 {
-    let mut positions = [0u64; LIMIT];
-    let n = fill_positions(vertice, Kind::Vertice, &mut positions);
-    let mut order = [0usize; LIMIT];
-    sort(&positions, &mut order, n);
+    let k = Kind::Vertice;
+    let mut xs = [0u64; LIMIT];
+    let n = fill_places(vertice, k, k.x_field(), &mut xs);
+    let mut ys = [0u64; LIMIT];
+    fill_places(vertice, k, k.x_field() + 2, &mut ys);
     let mut hints = [0u16; HINTS];
-    fill_hints(&positions, &mut hints, n);
-    mark_placed(nodo, vertice, &positions, &order, &hints, n, used);
+    let mut order = [0usize; LIMIT];
+    let way = prepare(&xs, n, &mut hints, &mut order);
+    let mut pairs = [0u64; LIMIT];
+    fill_pairs(&xs, &order, &hints, way, &ys, n, &mut pairs);
+    let mut pair_hints = [0u16; HINTS];
+    let mut pair_order = [0usize; LIMIT];
+    let pair_way = prepare(&pairs, n, &mut pair_hints, &mut pair_order);
+    mark_placed(
+        nodo,
+        &xs,
+        &order,
+        &hints,
+        way,
+        &ys,
+        &pairs,
+        &pair_order,
+        &pair_hints,
+        pair_way,
+        n,
+        used,
+    );
 }
 
-// The first of n that is not marked.
-fn first_unmarked(used: &[u64; LIMIT], n: usize) -> Found
-    requires { ⌜ (n ≤ limit) × (length (now used) ≡ limit) ⌝ }
-    ensures { λ r. ⌜ r ≡ foundOf (firstIndex (λ i. eqb (getD (now (used .entry)) i 0) 0) n) ⌝ }
+// Marks the records that are not in use.
+fn mark_unused(used: &[u64; LIMIT], n: usize, marks: &mut [u8])
+    requires { ⌜ (n ≤ limit) × (length (now used) ≡ limit) × (n ≤ length (now marks)) ⌝ }
+    ensures { λ _. ⌜ Marked (now (marks .entry)) (now (marks .exit)) (λ i. eqb (getD (now (used .entry)) i 0) 0) n ⌝ }
 {
     let mut i = 0;
     while i < n {
-        if used[i] == 0 {
-            return Found::At(i);
-        }
+        marks[i] = as_mark(used[i] == 0);
         i += 1;
     }
-    Found::Nothing
 }
 
-// 56: the first node that starts or ends no tramo, has the X and Y of no vertex, and is named by no point object.
-pub(crate) fn first_idle_node<'a>(
+// 56: marks the nodes that start or end no tramo, have the X and Y of no vertex, and are named by no point object.
+pub(crate) fn mark_idle_nodes<'a>(
     ob_pun: &'a [u8],
     tramo: &'a [u8],
     vertice: &'a [u8],
     nodo: &'a [u8],
-) -> Found
-    ensures { λ r. ⌜ r ≡ foundOf (firstIndex (λ i. not (nodeUsed (tableOf (now («ob_pun» .entry)) Kind.ObPun) (tableOf (now (tramo .entry)) Kind.Tramo) (tableOf (now (vertice .entry)) Kind.Vertice) (tableOf (now (nodo .entry)) Kind.Nodo) i)) (tableOf (now (nodo .entry)) Kind.Nodo .count)) ⌝ }
+    marks: &mut [u8],
+)
+    requires { ⌜ limit ≤ length (now marks) ⌝ }
+    ensures { λ _. ⌜ Marked (now (marks .entry)) (now (marks .exit)) (λ i. not (nodeUsed (tableOf (now («ob_pun» .entry)) Kind.ObPun) (tableOf (now (tramo .entry)) Kind.Tramo) (tableOf (now (vertice .entry)) Kind.Vertice) (tableOf (now (nodo .entry)) Kind.Nodo) i)) (tableOf (now (nodo .entry)) Kind.Nodo .count) ⌝ }
 {
     let mut used = [0u64; LIMIT];
     mark_names(nodo, Kind::Nodo, 1, tramo, Kind::Tramo, 6, &mut used);
     mark_names(nodo, Kind::Nodo, 1, tramo, Kind::Tramo, 7, &mut used);
     mark_places(nodo, vertice, &mut used);
     mark_names(nodo, Kind::Nodo, 1, ob_pun, Kind::ObPun, 3, &mut used);
-    first_unmarked(&used, rows(nodo, Kind::Nodo))
+    mark_unused(&used, rows(nodo, Kind::Nodo), marks);
 }
 
-// 57: the first linear object that no tramo names.
-pub(crate) fn first_idle_object<'a>(ob_lin: &'a [u8], tramo: &'a [u8]) -> Found
-    ensures { λ r. ⌜ r ≡ foundOf (firstIndex (objectIdle (tableOf (now («ob_lin» .entry)) Kind.ObLin) (tableOf (now (tramo .entry)) Kind.Tramo)) (tableOf (now («ob_lin» .entry)) Kind.ObLin .count)) ⌝ }
+// 57: marks the linear objects that no tramo names.
+pub(crate) fn mark_idle_objects<'a>(ob_lin: &'a [u8], tramo: &'a [u8], marks: &mut [u8])
+    requires { ⌜ limit ≤ length (now marks) ⌝ }
+    ensures { λ _. ⌜ Marked (now (marks .entry)) (now (marks .exit)) (objectIdle (tableOf (now («ob_lin» .entry)) Kind.ObLin) (tableOf (now (tramo .entry)) Kind.Tramo)) (tableOf (now («ob_lin» .entry)) Kind.ObLin .count) ⌝ }
 {
     let mut used = [0u64; LIMIT];
     mark_names(ob_lin, Kind::ObLin, 1, tramo, Kind::Tramo, 2, &mut used);
-    first_unmarked(&used, rows(ob_lin, Kind::ObLin))
+    mark_unused(&used, rows(ob_lin, Kind::ObLin), marks);
 }

@@ -1,6 +1,7 @@
 // Places in X and Y, and look-ups of them.
 use index::Found;
-use index::hint::find_hinted;
+use index::way::Way;
+use index::way::look;
 use record::columns::place;
 use record::columns::rows;
 use record::kind::Kind;
@@ -11,13 +12,12 @@ ghost use mathlib.Core.Bool.{_&&_};
 ghost use Prim.Native.Nat.{ℕ, _+_, _*_, _%_, _≤_, _<_, _^_};
 ghost use lib.Dec.{eqb};
 ghost use lib.ListN.{length, getD};
-ghost use Rattle.index.specs.Order.{Index};
+ghost use Rattle.index.specs.Way.{Ready};
 ghost use Rattle.record.specs.Table.{limit};
 ghost use Rattle.record.specs.Says.{tableOf};
 ghost use Rattle.record.specs.machinery.Columns.{Fills};
 ghost use Rattle.record.specs.Names.{nameAt};
-ghost use Rattle.topology.specs.Rules.{xAt, yAt, zAt, placed, nodeIn};
-ghost use Rattle.topology.specs.machinery.Places.{positionOf};
+ghost use Rattle.topology.specs.Rules.{xAt, yAt, zAt, nodeIn};
 
 pub(crate) fn x_at(s: &[u8], k: Kind, i: usize) -> u64
     ensures { λ r. ⌜ r ≡ xAt k (tableOf (now (s .entry)) k) i ⌝ }
@@ -47,21 +47,6 @@ pub(crate) fn is_at(s: &[u8], k: Kind, j: usize, x: u64, y: u64) -> bool
     (x_at(s, k, j) == x) & (y_at(s, k, j) == y)
 }
 
-// Whether a record is at X and Y, by scanning.
-pub(crate) fn scan_placed(s: &[u8], k: Kind, x: u64, y: u64) -> bool
-    ensures { λ r. ⌜ r ≡ placed k (tableOf (now (s .entry)) k) (tableOf (now (s .entry)) k .count) x y ⌝ }
-{
-    let n = rows(s, k);
-    let mut j = 0;
-    while j < n {
-        if is_at(s, k, j, x, y) {
-            return true;
-        }
-        j += 1;
-    }
-    false
-}
-
 // Whether a node with the name is at X and Y, by scanning.
 pub(crate) fn scan_node(nodo: &[u8], wanted: u64, x: u64, y: u64) -> bool
     ensures { λ r. ⌜ r ≡ nodeIn (tableOf (now (nodo .entry)) Kind.Nodo) wanted x y ⌝ }
@@ -77,75 +62,33 @@ pub(crate) fn scan_node(nodo: &[u8], wanted: u64, x: u64, y: u64) -> bool
     false
 }
 
-// Whether a node with the name is at X and Y. The node that is found by its id decides where it is there.
+// Whether a node with the name is at X and Y. The node that is found by its id decides where it is there, and where ids are known to
+// differ, since then no other has the name.
 pub(crate) fn node_at<'a>(
     nodo: &'a [u8],
     ids: &'a [u64],
     order: &'a [usize],
     hints: &'a [u16],
+    way: Way,
     n: usize,
     wanted: u64,
     x: u64,
     y: u64,
 ) -> bool
-    requires { ⌜ Index (now ids) (now order) n × Fills (now ids) (λ j. nameAt Kind.Nodo (tableOf (now nodo) Kind.Nodo) j 1) (tableOf (now nodo) Kind.Nodo .count) n ⌝ }
+    requires { ⌜ Ready (now ids) (now order) (now hints) n way × Fills (now ids) (λ j. nameAt Kind.Nodo (tableOf (now nodo) Kind.Nodo) j 1) (tableOf (now nodo) Kind.Nodo .count) n ⌝ }
     ensures { λ r. ⌜ r ≡ nodeIn (tableOf (now (nodo .entry)) Kind.Nodo) wanted x y ⌝ }
 {
-    let found = find_hinted(ids, order, hints, n, wanted);
+    let found = look(ids, order, hints, way, n, wanted);
     match found {
         Found::Nothing => false,
         Found::At(j) => {
             if is_at(nodo, Kind::Nodo, j, x, y) {
                 return true;
             }
-            scan_node(nodo, wanted, x, y)
-        }
-    }
-}
-
-// X and Y as one number: equal places have equal numbers. Of MIGRA's ranges all of Y and all but the highest bits of X count.
-pub(crate) fn position(x: u64, y: u64) -> u64
-    ensures { λ r. ⌜ r ≡ positionOf x y ⌝ }
-{
-    x % 536870912 * 34359738368 + y % 34359738368
-}
-
-// The position of each record of the file.
-pub(crate) fn fill_positions(s: &[u8], k: Kind, out: &mut [u64; LIMIT]) -> usize
-    requires { ⌜ length (now out) ≡ limit ⌝ }
-    ensures { λ r. ⌜ Fills (now (out .exit)) (λ i. positionOf (xAt k (tableOf (now (s .entry)) k) i) (yAt k (tableOf (now (s .entry)) k) i)) (tableOf (now (s .entry)) k .count) r ⌝ }
-{
-    let n = rows(s, k);
-    let mut i = 0;
-    while i < n {
-        out[i] = position(x_at(s, k, i), y_at(s, k, i));
-        i += 1;
-    }
-    n
-}
-
-// Whether a record is at X and Y. No record is where none has the position; one that has it decides where it is there.
-pub(crate) fn has_placed<'a>(
-    s: &'a [u8],
-    k: Kind,
-    positions: &'a [u64],
-    order: &'a [usize],
-    hints: &'a [u16],
-    n: usize,
-    x: u64,
-    y: u64,
-) -> bool
-    requires { ⌜ Index (now positions) (now order) n × Fills (now positions) (λ i. positionOf (xAt k (tableOf (now s) k) i) (yAt k (tableOf (now s) k) i)) (tableOf (now s) k .count) n ⌝ }
-    ensures { λ r. ⌜ r ≡ placed k (tableOf (now (s .entry)) k) (tableOf (now (s .entry)) k .count) x y ⌝ }
-{
-    let found = find_hinted(positions, order, hints, n, position(x, y));
-    match found {
-        Found::Nothing => false,
-        Found::At(j) => {
-            if is_at(s, k, j, x, y) {
-                return true;
+            if way.apart {
+                return false;
             }
-            scan_placed(s, k, x, y)
+            scan_node(nodo, wanted, x, y)
         }
     }
 }

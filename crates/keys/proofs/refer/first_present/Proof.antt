@@ -6,7 +6,7 @@ use mathlib.Core.Bool.{not}
 use lib.Dec.{eqb}
 use Rattle.record.specs.Names.{nameAt}
 use Rattle.record.specs.Says.{tableOf}
-use Rattle.keys.proofs.FoundLaws.{Passed, found-start, found-more, found-here, found-end}
+use Rattle.index.proofs.FoundLaws.{Passed, found-start, found-more, found-here, found-end}
 use borrow.Author.Needs.{needs}
 use Rattle.keys.proofs.refer.first_present.Statement.{statement}
 use Rattle.keys.proofs.refer.first_present.Tie as tie

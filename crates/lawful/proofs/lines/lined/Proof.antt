@@ -88,7 +88,7 @@ returns c =
     let p = c .before .before .before .before .before .before .before .before .before .before .before .before .before .before .before .before .before .before .before .before .before .before .before .before .before .before .before .before .before .before .before .before .before .before .before .before .before .before .before .pre in
     let s = c .before .before .before .before .before .lines-known .ensures (k .1) in
     lined-all _ _ _ (read-fills (search needs) (c .before .before .before .before .before .before .before .before .before .before .before .before .before .before .before .before .before .before .before .before .before .before .before .before .before .before .fill-keys .ensures)) (p .1) (read-fills (search needs) (c .before .before .before .before .before .before .before .before .before .before .before .before .before .before .before .before .before .before .before .fill-names .ensures)) (p .0) (p .3) (p .2)
-    (c .before .before .before .before .before .before .before .before .before .before .before .differ .ensures (d .0)) (c .before .before .before .before .before .before .before .before .all-numbered .ensures (d .1)) (s .0) (s .1) (c .all-meet .ensures (m .1))
+    (c .before .before .before .before .before .before .before .before .before .before .before .differ .ensures .0 (d .0)) (c .before .before .before .before .before .before .before .before .all-numbered .ensures (d .1)) (s .0) (s .1) (c .all-meet .ensures (m .1))
 
 pub lined-spec : {M : Type 1} → statement M
 lined-spec =

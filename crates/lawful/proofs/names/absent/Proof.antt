@@ -3,7 +3,7 @@
 use mathlib.Core.Path.{sym}
 use borrow.Author.Tests.{eqb-true, not-false}
 use Rattle.laws.proofs.FindLaws.{true-false, any-no}
-use Rattle.keys.proofs.FoundLaws.{any-of-nothing}
+use Rattle.index.proofs.FoundLaws.{any-of-nothing}
 use borrow.Author.Needs.{needs}
 use Rattle.lawful.proofs.names.absent.Statement.{statement}
 use Rattle.lawful.proofs.names.absent.Tie as tie

@@ -94,7 +94,7 @@ returns c =
     let p = and-true _ _ (x .0) in
     let s = c .before .before .before .before .before .before .before .before .before .before .before .before .before .before .before .before in
     catalogued-all _ (read-fills (search needs) (s .before .before .before .before .before .before .before .before .before .before .before .fill-names .ensures)) (read-fills (search needs) (s .before .before .before .before .before .before .before .before .fill-letters .ensures)) _ _ _ _
-    (s .differ .ensures (p .0)) (c .before .before .before .before .before .before .before .before .before .before .before .before .typed .ensures (p .1)) (c .before .before .before .before .before .before .before .before .typed2 .ensures (x .1)) (c .before .before .before .before .typed3 .ensures (l .1)) (c .typed4 .ensures (d .1))
+    (s .differ .ensures .0 (p .0)) (c .before .before .before .before .before .before .before .before .before .before .before .before .typed .ensures (p .1)) (c .before .before .before .before .before .before .before .before .typed2 .ensures (x .1)) (c .before .before .before .before .typed3 .ensures (l .1)) (c .typed4 .ensures (d .1))
 
 pub catalogued-spec : {M : Type 1} → statement M
 catalogued-spec =

@@ -67,7 +67,7 @@ returns c =
     let u = and-true _ _ e in
     let k = and-true _ _ (u .0) in
     let s = c .before .before .before .before .before .before .before .before in
-    objects-all _ _ (read-fills (search needs) (s .before .before .before .before .before .before .before .before .before .before .before .fill-names .ensures)) (read-fills (search needs) (s .before .before .before .before .before .before .before .before .fill-names2 .ensures)) (s .differ .ensures (k .0)) (c .before .before .before .before .all-known .ensures (k .1)) (c .all-used .ensures (u .1))
+    objects-all _ _ (read-fills (search needs) (s .before .before .before .before .before .before .before .before .before .before .before .fill-names .ensures)) (read-fills (search needs) (s .before .before .before .before .before .before .before .before .fill-names2 .ensures)) (s .differ .ensures .0 (k .0)) (c .before .before .before .before .all-known .ensures (k .1)) (c .all-used .ensures (u .1))
 
 pub objects-spec : {M : Type 1} → statement M
 objects-spec =

@@ -18,7 +18,7 @@ slice-aggregate-fill-spots c = search needs
 
 fill-spots-requires : tie.Need-fill-spots-requires
 fill-spots-requires c κs =
-    let f = read-fills (search needs) (c .before .before .before .fill-places .ensures) in
+    let f = read-fills (search needs) (c .before .before .before .fill-places .ensures .0) in
     (omega (arith, f .count, f .small), search needs)
 
 slice-aggregate-hinted-distinct : tie.Need-slice-aggregate-hinted-distinct
@@ -30,7 +30,7 @@ hinted-distinct-requires c κs = search needs
 returns : tie.Need-returns
 returns c =
     λ e.
-    apart-all _ (c .before .before .before .before .before .before .before .before .before .before .before .pre) (read-fills (search needs) (c .before .before .before .before .before .before .fill-places .ensures)) (c .before .before .fill-spots .ensures) (c .hinted-distinct .ensures e)
+    apart-all _ (c .before .before .before .before .before .before .before .before .before .before .before .pre) (read-fills (search needs) (c .before .before .before .before .before .before .fill-places .ensures .0)) (c .before .before .fill-spots .ensures) (c .hinted-distinct .ensures e)
 
 pub apart-spec : {M : Type 1} → statement M
 apart-spec =

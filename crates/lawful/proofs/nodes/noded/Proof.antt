@@ -62,7 +62,7 @@ slice-aggregate-apart-2 : tie.Need-slice-aggregate-apart-2
 slice-aggregate-apart-2 c = search needs
 
 apart-requires : tie.Need-apart-requires
-apart-requires c κs = spots-in _ _ (read-fills (search needs) (c .before .before .before .before .before .before .before .before .before .before .before .before .before .before .before .fill-places .ensures)) (read-fills (search needs) (c .before .before .before .before .before .before .before .before .before .before .before .before .fill-places2 .ensures))
+apart-requires c κs = spots-in _ _ (read-fills (search needs) (c .before .before .before .before .before .before .before .before .before .before .before .before .before .before .before .fill-places .ensures .0)) (read-fills (search needs) (c .before .before .before .before .before .before .before .before .before .before .before .before .fill-places2 .ensures .0))
 
 slice-aggregate-in-use : tie.Need-slice-aggregate-in-use
 slice-aggregate-in-use c = search needs
@@ -71,7 +71,7 @@ slice-aggregate-in-use-2 : tie.Need-slice-aggregate-in-use-2
 slice-aggregate-in-use-2 c = search needs
 
 slice-aggregate-in-use-3 : tie.Need-slice-aggregate-in-use-3
-slice-aggregate-in-use-3 c = search needs
+slice-aggregate-in-use-3 c = search (needs, c .before .before .before .before .before .before .before .before .before .before .before .before .before .before .before .before .before .before .before .before .before .before .before .before .before .ids2 .given, c .before .before .before .before .before .before .before .before .before .before .before .before .before .before .before .before .before .before .before .before .before .before .before .before .before .before .before .ids .given)
 
 slice-aggregate-in-use-4 : tie.Need-slice-aggregate-in-use-4
 slice-aggregate-in-use-4 c = search needs
@@ -85,8 +85,8 @@ slice-aggregate-in-use-6 c = search needs
 in-use-requires : tie.Need-in-use-requires
 in-use-requires c κs =
     let s = c .before .before .before .before .before .before .before .before .before .before .before .before .before in
-    let x = read-fills (search needs) (s .before .before .before .fill-places3 .ensures) in
-    (spots-in _ _ x (read-fills (search needs) (s .fill-places4 .ensures)), x .count, spots-in _ _ (read-fills (search needs) (s .before .before .before .before .before .before .before .before .before .fill-places .ensures)) (read-fills (search needs) (s .before .before .before .before .before .before .fill-places2 .ensures)), read-fills (search needs) (s .before .before .before .before .before .before .before .before .before .before .before .before .before .before .before .before .fill-names .ensures))
+    let x = read-fills (search needs) (s .before .before .before .fill-places3 .ensures .0) in
+    (spots-in _ _ x (read-fills (search needs) (s .fill-places4 .ensures .0)), x .count, spots-in _ _ (read-fills (search needs) (s .before .before .before .before .before .before .before .before .before .fill-places .ensures .0)) (read-fills (search needs) (s .before .before .before .before .before .before .fill-places2 .ensures .0)), read-fills (search needs) (s .before .before .before .before .before .before .before .before .before .before .before .before .before .before .before .before .fill-names .ensures))
 
 returns : tie.Need-returns
 returns c =
@@ -94,7 +94,7 @@ returns c =
     let u = and-true _ _ e in
     let a = and-true _ _ (u .0) in
     let h = c .in-use .ensures (u .1) in
-    (h .0, h .1, noded-all _ (read-fills (search needs) (c .before .before .before .before .before .before .before .before .before .before .before .before .before .before .before .before .before .before .before .before .before .before .before .before .before .before .before .before .before .before .fill-names .ensures)) (c .before .before .before .before .before .before .before .before .before .before .differ .ensures (a .0)) (c .before .before .before .before .before .before .before .apart .ensures (a .1)))
+    (h .0, h .1, noded-all _ (read-fills (search needs) (c .before .before .before .before .before .before .before .before .before .before .before .before .before .before .before .before .before .before .before .before .before .before .before .before .before .before .before .before .before .before .fill-names .ensures)) (c .before .before .before .before .before .before .before .before .before .before .differ .ensures .0 (a .0)) (c .before .before .before .before .before .before .before .apart .ensures (a .1)))
 
 pub noded-spec : {M : Type 1} → statement M
 noded-spec =

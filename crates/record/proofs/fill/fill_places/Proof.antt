@@ -1,6 +1,8 @@
 -- `fill_places` meets its contract: the loop has read the places of the records before i, and stands at record i.
 -- Assumes nothing.
-use Prim.Native.Nat.{_-_}
+use Prim.Native.Nat.{_-_, _^_}
+use Rattle.laws.specs.Row.{Narrow}
+use Rattle.laws.proofs.RowLaws.{narrow-start, narrow-more, narrow-end}
 use mathlib.Core.Path.{ap, _∙_}
 use native.Mathlib.Omega.{arith}
 use borrow.Author.Needs.{needs}
@@ -11,7 +13,7 @@ use Rattle.record.proofs.fill.fill_places.Statement.{statement}
 use Rattle.record.proofs.fill.fill_places.Tie as tie
 
 abbrev Inv-loop : tie.InvT-loop
-Inv-loop s k f out₀ n g form offset width sign sign-width at₀ i₀ out at i = Filling (λ j. placeIn (tableOf s k .says j f)) n out₀ out i × Starts k i at
+Inv-loop s k f out₀ n g form offset width sign sign-width at₀ i₀ out at i = Filling (λ j. placeIn (tableOf s k .says j f)) n out₀ out i × Starts k i at × Narrow out i (2 ^ 40)
 
 abbrev μ-loop : tie.MeasureT-loop
 μ-loop s k f out₀ n g form offset width sign sign-width at₀ i₀ out at i = n - i
@@ -22,7 +24,7 @@ rows-requires c κs = search needs
 returns : tie.Need-returns Inv-loop μ-loop
 returns c =
     let d = c .before in
-    read-none _ _ (omega (arith, d .rows .ensures .0, d .rows .ensures .1)) (c .if1 .taken) (d .rows .ensures .0)
+    (read-none _ _ (omega (arith, d .rows .ensures .0, d .rows .ensures .1)) (c .if1 .taken) (d .rows .ensures .0), narrow-start _ _)
 
 sign-field-requires : tie.Need-sign-field-requires Inv-loop μ-loop
 sign-field-requires c κs = search needs
@@ -43,7 +45,7 @@ width-requires-2 : tie.Need-width-requires-2 Inv-loop μ-loop
 width-requires-2 c κs = search needs
 
 loop-holds : tie.Need-loop-holds Inv-loop μ-loop
-loop-holds c = (filling-none _ _, starts-first _)
+loop-holds c = (filling-none _ _, starts-first _, narrow-start _ _)
 
 add-part : tie.Need-add-part Inv-loop μ-loop
 add-part c = search needs
@@ -98,6 +100,7 @@ loop-again c =
     (p .before .part .ensures) in (
       filling-more (d .loop .inv .0) (e .if1 .left) (t .loop-test .taken) (place-cut _ _ _ _ (o .before .form .ensures) size sign (c .before .place-in .ensures .0)),
       starts-next (d .loop .inv .1) (c .length .ensures),
+      narrow-more (search needs) (c .before .place-in .ensures .1) (d .loop .inv .2),
     )
 
 same-length : tie.Need-same-length Inv-loop μ-loop
@@ -106,8 +109,10 @@ same-length c = search needs
 returns-2 : tie.Need-returns-2 Inv-loop μ-loop
 returns-2 c =
     let d = c .before in
-    let r = d .before .before .before .before .before .before .before .before .rows .ensures in
-    filling-all (d .loop .inv .0) (d .before .before .before .before .before .before .before .if1 .left) (omega (arith, r .0, r .1)) (c .loop-test .left) (r .0)
+    let r = d .before .before .before .before .before .before .before .before .rows .ensures in (
+      filling-all (d .loop .inv .0) (d .before .before .before .before .before .before .before .if1 .left) (omega (arith, r .0, r .1)) (c .loop-test .left) (r .0),
+      narrow-end (c .loop-test .left) (d .loop .inv .2),
+    )
 
 pub fill-places-spec : {M : Type 1} → statement M
 fill-places-spec =

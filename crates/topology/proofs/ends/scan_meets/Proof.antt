@@ -5,7 +5,7 @@ use mathlib.Core.Logic.{⊎-elim}
 use mathlib.Core.Path.{_∙_}
 use Rattle.record.specs.declared.kind.Kind.the-variants.{Vertice, Nodo}
 use Rattle.record.specs.Says.{tableOf}
-use Rattle.keys.proofs.FoundLaws.{Passed, found-start, found-more, any-found, any-end}
+use Rattle.index.proofs.FoundLaws.{Passed, found-start, found-more, any-found, any-end}
 use Rattle.topology.proofs.EndLaws.{meetsAt, meets-any, meets-other, meets-key}
 use borrow.Author.Needs.{needs}
 use Rattle.topology.proofs.ends.scan_meets.Statement.{statement}

@@ -13,10 +13,10 @@ use Rattle.topology.proofs.nodes.mark_named.Statement.{statement}
 use Rattle.topology.proofs.nodes.mark_named.Tie as tie
 
 abbrev Inv-loop : tie.InvT-loop
-Inv-loop s k f keys order hints n used₀ m i₀ used i = Marking used₀ (λ j. names (λ h. getD keys h 0) n (nameAt k (tableOf s k) j f)) m used i
+Inv-loop s k f keys order hints way n used₀ m i₀ used i = Marking used₀ (λ j. names (λ h. getD keys h 0) n (nameAt k (tableOf s k) j f)) m used i
 
 abbrev μ-loop : tie.MeasureT-loop
-μ-loop s k f keys order hints n used₀ m i₀ used i = m - i
+μ-loop s k f keys order hints way n used₀ m i₀ used i = m - i
 
 rows-requires : tie.Need-rows-requires Inv-loop μ-loop
 rows-requires c κs = search needs
@@ -27,8 +27,8 @@ loop-holds c = marking-none _ _ _ (c .before .before .before .before .before .pr
 name-requires : tie.Need-name-requires Inv-loop μ-loop
 name-requires c κs = search needs
 
-has-hinted-requires : tie.Need-has-hinted-requires Inv-loop μ-loop
-has-hinted-requires c κs = search needs
+is-there-requires : tie.Need-is-there-requires Inv-loop μ-loop
+is-there-requires c κs = search needs
 
 mul-used : tie.Need-mul-used Inv-loop μ-loop
 mul-used c = search needs
@@ -45,7 +45,7 @@ loop-less c = search needs
 loop-again : tie.Need-loop-again Inv-loop μ-loop
 loop-again c =
     let d = c .before .before .before .before in
-    let told = rw (c .before .before .name .ensures .0) at (c .before .has-hinted .ensures) in
+    let told = rw (c .before .before .name .ensures .0) at (c .before .is-there .ensures) in
     ⊎-elim
     (λ w.
     marking-set (d .loop .inv) (c .before .before .before .loop-test .taken) (d .before .rows .ensures .1) (sym told ∙ w .0 .taken) (w .1))
@@ -66,7 +66,7 @@ mark-named-spec =
     rows-requires
     loop-holds
     name-requires
-    has-hinted-requires
+    is-there-requires
     mul-used
     element-write-used
     add-i

@@ -1,30 +1,34 @@
 -- `topology::nodes::mark_placed` meets its contract. The nodes passed are marked where a vertex is at their place.
 -- Assumes nothing.
 use Prim.Native.Nat.{_-_}
+use mathlib.Core.Bool.{_&&_}
 use mathlib.Core.Logic.{⊎-elim}
 use mathlib.Core.Path.{sym, _∙_}
-use Rattle.record.specs.declared.kind.Kind.the-variants.{Vertice, Nodo}
+use lib.Dec.{eqb}
+use lib.ListN.{getD}
+use Rattle.laws.specs.Find.{any}
+use Rattle.record.specs.declared.kind.Kind.the-variants.{Nodo}
 use Rattle.record.specs.Says.{tableOf}
-use Rattle.topology.specs.Rules.{xAt, yAt, placed}
+use Rattle.topology.specs.Rules.{xAt, yAt}
 use Rattle.topology.proofs.MarkLaws.{Marking, marking-none, marking-set, marking-keep, marking-end}
 use borrow.Author.Needs.{needs}
 use Rattle.topology.proofs.nodes.mark_placed.Statement.{statement}
 use Rattle.topology.proofs.nodes.mark_placed.Tie as tie
 
 abbrev Inv-loop : tie.InvT-loop
-Inv-loop nodo vertice positions order hints n used₀ m i₀ used i =
+Inv-loop nodo xs order hints way ys pairs pair-order pair-hints pair-way n used₀ m i₀ used i =
     Marking used₀
-    (λ j. placed Vertice (tableOf vertice Vertice) (tableOf vertice Vertice .count) (xAt Nodo (tableOf nodo Nodo) j) (yAt Nodo (tableOf nodo Nodo) j))
+    (λ j. any (λ h. eqb (getD xs h 0) (xAt Nodo (tableOf nodo Nodo) j) && eqb (getD ys h 0) (yAt Nodo (tableOf nodo Nodo) j)) n)
     m used i
 
 abbrev μ-loop : tie.MeasureT-loop
-μ-loop nodo vertice positions order hints n used₀ m i₀ used i = m - i
+μ-loop nodo xs order hints way ys pairs pair-order pair-hints pair-way n used₀ m i₀ used i = m - i
 
 rows-requires : tie.Need-rows-requires Inv-loop μ-loop
 rows-requires c κs = search needs
 
 loop-holds : tie.Need-loop-holds Inv-loop μ-loop
-loop-holds c = marking-none _ _ _ (c .before .before .before .before .before .before .pre .2)
+loop-holds c = marking-none _ _ _ (c .before .before .before .before .before .before .before .before .before .pre .4)
 
 x-at-requires : tie.Need-x-at-requires Inv-loop μ-loop
 x-at-requires c κs = search needs
@@ -32,8 +36,8 @@ x-at-requires c κs = search needs
 y-at-requires : tie.Need-y-at-requires Inv-loop μ-loop
 y-at-requires c κs = search needs
 
-has-placed-requires : tie.Need-has-placed-requires Inv-loop μ-loop
-has-placed-requires c κs = search needs
+has-pair-requires : tie.Need-has-pair-requires Inv-loop μ-loop
+has-pair-requires c κs = search needs
 
 mul-used : tie.Need-mul-used Inv-loop μ-loop
 mul-used c = search needs
@@ -50,7 +54,7 @@ loop-less c = search needs
 loop-again : tie.Need-loop-again Inv-loop μ-loop
 loop-again c =
     let d = c .before .before .before .before .before in
-    let told = rw (c .before .before .before .x-at .ensures .0, c .before .before .y-at .ensures .0) at (c .before .has-placed .ensures) in
+    let told = rw (c .before .before .before .x-at .ensures .0, c .before .before .y-at .ensures .0) at (c .before .has-pair .ensures) in
     ⊎-elim
     (λ w.
     marking-set (d .loop .inv) (c .before .before .before .before .loop-test .taken) (d .before .rows .ensures .1) (sym told ∙ w .0 .taken) (w .1))
@@ -60,7 +64,7 @@ loop-again c =
 returns : tie.Need-returns Inv-loop μ-loop
 returns c =
     let d = c .before in
-    marking-end (d .loop .inv) (d .before .before .before .before .before .before .before .pre .2) (c .loop-test .left) (d .before .rows .ensures .0)
+    marking-end (d .loop .inv) (d .before .before .before .before .before .before .before .before .before .before .pre .4) (c .loop-test .left) (d .before .rows .ensures .0)
 
 pub mark-placed-spec : {M : Type 1} → statement M
 mark-placed-spec =
@@ -72,7 +76,7 @@ mark-placed-spec =
     loop-holds
     x-at-requires
     y-at-requires
-    has-placed-requires
+    has-pair-requires
     mul-used
     element-write-used
     add-i

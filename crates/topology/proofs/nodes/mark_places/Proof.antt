@@ -1,30 +1,80 @@
--- `topology::nodes::mark_places` meets its contract. The array holds the vertices' positions, and the sort has room.
+-- `topology::nodes::mark_places` meets its contract. The columns hold the vertices' places.
 -- Assumes nothing.
-use Rattle.topology.proofs.MarkLaws.{sorted-column}
+use Rattle.record.proofs.ColumnLaws.{read-fills}
+use Rattle.laws.proofs.RowLaws.{narrow-end}
+use Rattle.topology.proofs.MarkLaws.{marks-same}
+use Rattle.topology.proofs.SpotLaws.{placed-columns}
 use borrow.Author.Needs.{needs}
+use native.Mathlib.Omega.{arith}
 use Rattle.topology.proofs.nodes.mark_places.Statement.{statement}
 use Rattle.topology.proofs.nodes.mark_places.Tie as tie
 
-fill-positions-requires : tie.Need-fill-positions-requires
-fill-positions-requires c κs = search needs
+x-field-requires : tie.Need-x-field-requires
+x-field-requires c κs = search needs
 
-slice-aggregate-sort : tie.Need-slice-aggregate-sort
-slice-aggregate-sort c = search needs
+slice-aggregate-fill-places : tie.Need-slice-aggregate-fill-places
+slice-aggregate-fill-places c = search needs
 
-slice-aggregate-sort-2 : tie.Need-slice-aggregate-sort-2
-slice-aggregate-sort-2 c = search needs
+fill-places-requires : tie.Need-fill-places-requires
+fill-places-requires c κs = search needs
 
-sort-requires : tie.Need-sort-requires
-sort-requires c κs = search needs
+x-field-requires-2 : tie.Need-x-field-requires-2
+x-field-requires-2 c κs = search needs
 
-slice-aggregate-fill-hints : tie.Need-slice-aggregate-fill-hints
-slice-aggregate-fill-hints c = search needs
+add-fill-places : tie.Need-add-fill-places
+add-fill-places c = search needs
 
-slice-aggregate-fill-hints-2 : tie.Need-slice-aggregate-fill-hints-2
-slice-aggregate-fill-hints-2 c = search needs
+slice-aggregate-fill-places-2 : tie.Need-slice-aggregate-fill-places-2
+slice-aggregate-fill-places-2 c = search needs
 
-fill-hints-requires : tie.Need-fill-hints-requires
-fill-hints-requires c κs = search needs
+fill-places-requires-2 : tie.Need-fill-places-requires-2
+fill-places-requires-2 c κs = search needs
+
+slice-aggregate-prepare : tie.Need-slice-aggregate-prepare
+slice-aggregate-prepare c = search needs
+
+slice-aggregate-prepare-2 : tie.Need-slice-aggregate-prepare-2
+slice-aggregate-prepare-2 c = search needs
+
+slice-aggregate-prepare-3 : tie.Need-slice-aggregate-prepare-3
+slice-aggregate-prepare-3 c = search needs
+
+prepare-requires : tie.Need-prepare-requires
+prepare-requires c κs =
+    let fx = read-fills (search needs) (rw (c .before .before .before .before .before .before .before .before .before .before .x-field .ensures .0) at (c .before .before .before .before .before .before .before .before .fill-places .ensures .0)) in search (needs, fx .count, fx .small)
+
+slice-aggregate-fill-pairs : tie.Need-slice-aggregate-fill-pairs
+slice-aggregate-fill-pairs c = search needs
+
+slice-aggregate-fill-pairs-2 : tie.Need-slice-aggregate-fill-pairs-2
+slice-aggregate-fill-pairs-2 c = search needs
+
+slice-aggregate-fill-pairs-3 : tie.Need-slice-aggregate-fill-pairs-3
+slice-aggregate-fill-pairs-3 c = search needs
+
+slice-aggregate-fill-pairs-4 : tie.Need-slice-aggregate-fill-pairs-4
+slice-aggregate-fill-pairs-4 c = search needs
+
+slice-aggregate-fill-pairs-5 : tie.Need-slice-aggregate-fill-pairs-5
+slice-aggregate-fill-pairs-5 c = search needs
+
+fill-pairs-requires : tie.Need-fill-pairs-requires
+fill-pairs-requires c κs =
+    let fx = read-fills (search needs) (rw (c .before .before .before .before .before .before .before .before .before .before .before .before .before .before .before .before .before .before .x-field .ensures .0) at (c .before .before .before .before .before .before .before .before .before .before .before .before .before .before .before .before .fill-places .ensures .0)) in
+    let fy = read-fills (search needs) (rw (c .before .before .before .before .before .before .before .before .before .before .before .before .before .before .x-field2 .ensures .0) at (c .before .before .before .before .before .before .before .before .before .before .before .before .fill-places2 .ensures .0)) in
+    (c .before .before .before .before .before .before .before .prepare .ensures, search (needs, fx .count, fx .small), search (needs, fx .count, fx .small), narrow-end (omega (arith, fx .count, fy .count)) (c .before .before .before .before .before .before .before .before .before .before .before .before .fill-places2 .ensures .1))
+
+slice-aggregate-prepare-4 : tie.Need-slice-aggregate-prepare-4
+slice-aggregate-prepare-4 c = search needs
+
+slice-aggregate-prepare-5 : tie.Need-slice-aggregate-prepare-5
+slice-aggregate-prepare-5 c = search needs
+
+slice-aggregate-prepare-6 : tie.Need-slice-aggregate-prepare-6
+slice-aggregate-prepare-6 c = search needs
+
+prepare-requires-2 : tie.Need-prepare-requires-2
+prepare-requires-2 c κs = search needs
 
 slice-aggregate-mark-placed : tie.Need-slice-aggregate-mark-placed
 slice-aggregate-mark-placed c = search needs
@@ -35,28 +85,60 @@ slice-aggregate-mark-placed-2 c = search needs
 slice-aggregate-mark-placed-3 : tie.Need-slice-aggregate-mark-placed-3
 slice-aggregate-mark-placed-3 c = search needs
 
+slice-aggregate-mark-placed-4 : tie.Need-slice-aggregate-mark-placed-4
+slice-aggregate-mark-placed-4 c = search needs
+
+slice-aggregate-mark-placed-5 : tie.Need-slice-aggregate-mark-placed-5
+slice-aggregate-mark-placed-5 c = search needs
+
+slice-aggregate-mark-placed-6 : tie.Need-slice-aggregate-mark-placed-6
+slice-aggregate-mark-placed-6 c = search needs
+
+slice-aggregate-mark-placed-7 : tie.Need-slice-aggregate-mark-placed-7
+slice-aggregate-mark-placed-7 c = search needs
+
 mark-placed-requires : tie.Need-mark-placed-requires
 mark-placed-requires c κs =
-    let d = c .before .before .before .before .before .before .before .before .before in
-    let f = d .before .before .before in
-    (sorted-column (f .fill-positions .ensures) (search needs) (d .sort .ensures), f .fill-positions .ensures, f .before .before .before .before .pre)
+    let fx = read-fills (search needs) (rw (c .before .before .before .before .before .before .before .before .before .before .before .before .before .before .before .before .before .before .before .before .before .before .before .before .before .before .before .before .before .before .before .before .before .before .x-field .ensures .0) at (c .before .before .before .before .before .before .before .before .before .before .before .before .before .before .before .before .before .before .before .before .before .before .before .before .before .before .before .before .before .before .before .before .fill-places .ensures .0)) in
+    (c .before .before .before .before .before .before .before .before .before .before .before .before .before .before .before .before .before .before .before .before .before .before .before .prepare .ensures, search (needs, fx .count, fx .small), c .before .before .before .before .before .before .before .before .before .before .before .before .before .before .before .fill-pairs .ensures, c .before .before .before .before .before .before .before .before .before .before .prepare2 .ensures, c .before .before .before .before .before .before .before .before .before .before .before .before .before .before .before .before .before .before .before .before .before .before .before .before .before .before .before .before .before .before .before .before .before .before .before .before .before .pre)
 
 returns : tie.Need-returns
-returns c = search needs
+returns c =
+    let fx = read-fills (search needs) (rw (c .before .before .before .before .before .before .before .before .before .before .before .before .before .before .before .before .before .before .before .before .before .before .before .before .before .before .before .before .before .before .before .before .before .before .before .x-field .ensures .0) at (c .before .before .before .before .before .before .before .before .before .before .before .before .before .before .before .before .before .before .before .before .before .before .before .before .before .before .before .before .before .before .before .before .before .fill-places .ensures .0)) in
+    let fy = read-fills (search needs) (rw (c .before .before .before .before .before .before .before .before .before .before .before .before .before .before .before .before .before .before .before .before .before .before .before .before .before .before .before .before .before .before .before .x-field2 .ensures .0) at (c .before .before .before .before .before .before .before .before .before .before .before .before .before .before .before .before .before .before .before .before .before .before .before .before .before .before .before .before .before .fill-places2 .ensures .0)) in
+    marks-same (λ i. placed-columns _ fx fy _ _) (c .mark-placed .ensures)
 
 pub mark-places-spec : {M : Type 1} → statement M
 mark-places-spec =
     tie.close
     (tie.spec
-    fill-positions-requires
-    slice-aggregate-sort
-    slice-aggregate-sort-2
-    sort-requires
-    slice-aggregate-fill-hints
-    slice-aggregate-fill-hints-2
-    fill-hints-requires
+    x-field-requires
+    slice-aggregate-fill-places
+    fill-places-requires
+    x-field-requires-2
+    add-fill-places
+    slice-aggregate-fill-places-2
+    fill-places-requires-2
+    slice-aggregate-prepare
+    slice-aggregate-prepare-2
+    slice-aggregate-prepare-3
+    prepare-requires
+    slice-aggregate-fill-pairs
+    slice-aggregate-fill-pairs-2
+    slice-aggregate-fill-pairs-3
+    slice-aggregate-fill-pairs-4
+    slice-aggregate-fill-pairs-5
+    fill-pairs-requires
+    slice-aggregate-prepare-4
+    slice-aggregate-prepare-5
+    slice-aggregate-prepare-6
+    prepare-requires-2
     slice-aggregate-mark-placed
     slice-aggregate-mark-placed-2
     slice-aggregate-mark-placed-3
+    slice-aggregate-mark-placed-4
+    slice-aggregate-mark-placed-5
+    slice-aggregate-mark-placed-6
+    slice-aggregate-mark-placed-7
     mark-placed-requires
     returns)

@@ -4,7 +4,7 @@ use Prim.Native.Nat.{_-_}
 use mathlib.Core.Path.{refl, sym, _∙_}
 use Rattle.record.specs.declared.kind.Kind.the-variants.{Nodo}
 use Rattle.record.specs.Says.{tableOf}
-use Rattle.keys.proofs.FoundLaws.{Passed, found-start, found-more, found-here, found-end}
+use Rattle.index.proofs.FoundLaws.{Passed, found-start, found-more, found-here, found-end}
 use Rattle.topology.specs.Rules.{samePlace}
 use borrow.Author.Needs.{needs}
 use Rattle.topology.proofs.nodes.place_before.Statement.{statement}

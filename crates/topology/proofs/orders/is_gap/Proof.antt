@@ -14,18 +14,19 @@ shared-slice-read-x c = search needs
 returns : tie.Need-returns
 returns c = gap-zero _ _ _ (c .if1 .taken)
 
-sub-has-hinted : tie.Need-sub-has-hinted
-sub-has-hinted c = search needs
+sub-is-there : tie.Need-sub-is-there
+sub-is-there c = search needs
 
-has-hinted-requires : tie.Need-has-hinted-requires
-has-hinted-requires c κs = search needs
+is-there-requires : tie.Need-is-there-requires
+is-there-requires c κs = search needs
 
 returns-2 : tie.Need-returns-2
-returns-2 c = gap-over _ _ _ (c .before .before .if1 .left) (c .before .if2 .taken) (c .has-hinted .ensures)
+returns-2 c = gap-over _ _ _ (c .before .before .if1 .left) (c .before .if2 .taken) (c .is-there .ensures)
 
 returns-3 : tie.Need-returns-3
 returns-3 c = gap-one _ _ _ (c .before .if1 .left) (c .if2 .left)
 
 pub is-gap-spec : {M : Type 1} → statement M
 is-gap-spec =
-    tie.close (tie.spec mul-x shared-slice-read-x returns sub-has-hinted has-hinted-requires returns-2 returns-3)
+    tie.close
+    (tie.spec mul-x shared-slice-read-x returns sub-is-there is-there-requires returns-2 returns-3)

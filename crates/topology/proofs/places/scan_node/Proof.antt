@@ -7,7 +7,7 @@ use lib.Dec.{eqb}
 use Rattle.record.specs.declared.kind.Kind.the-variants.{Nodo}
 use Rattle.record.specs.Says.{tableOf}
 use Rattle.record.specs.Names.{nameAt}
-use Rattle.keys.proofs.FoundLaws.{Passed, found-start, found-more, any-found, any-end}
+use Rattle.index.proofs.FoundLaws.{Passed, found-start, found-more, any-found, any-end}
 use Rattle.topology.specs.Rules.{xAt, yAt, nodeIn}
 use Rattle.topology.proofs.places.scan_node.Statement.{statement}
 use Rattle.topology.proofs.places.scan_node.Tie as tie

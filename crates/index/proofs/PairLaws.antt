@@ -1,0 +1,114 @@
+-- The laws of two columns as one (specs/Pairs.antt).
+-- Assumes nothing.
+use Prim.Native.Nat.{ℕ, _+_, _*_, _/_, _<_, _≤_}
+use mathlib.Core.Bool.{Bool, true, false, _&&_}
+use mathlib.Core.List.{List}
+use mathlib.Core.Logic.{⊎-elim}
+use mathlib.Core.Path.{_≡_, refl, sym, ap, ap₂, subst, _∙_}
+use native.Mathlib.Omega.{arith}
+use lib.Dec.{eqb}
+use lib.ListN.{length, getD, set}
+use lib.Seq.{getD-set-same, getD-set-other}
+use borrow.Author.Tests.{eq-eqb, ne-eqb}
+use Rattle.laws.specs.Row.{Narrow}
+use Rattle.laws.specs.Find.{any, names}
+use Rattle.laws.proofs.FindLaws.{any-true, any-false, any-same}
+use Rattle.index.specs.Keys.{room, listed}
+use Rattle.index.specs.Look.{Sought}
+use Rattle.index.specs.Way.{Stands}
+use Rattle.index.specs.Pairs.{wide, Joined, Pairs}
+use Rattle.index.specs.declared.Found.{Found}
+use Rattle.index.specs.declared.Found.the-variants.{At, Nothing}
+use Rattle.index.proofs.LookLaws.{pair-same}
+use Rattle.index.proofs.OrderLaws.{less-or}
+
+-- JOINING, a loop's: the first i are joined, the rest are as they were
+pub record Joining (before seconds after : List ℕ) (i : ℕ) : Type 0 where
+  pub done : (e : ℕ) → e < i → getD after e 0 ≡ getD before e 0 * wide + getD seconds e 0
+  pub left : (e : ℕ) → i ≤ e → getD after e 0 ≡ getD before e 0
+
+pub joining-start : (before seconds : List ℕ) → Joining before seconds before 0
+joining-start before seconds = record { done = λ e l. absurd (omega arith); left = λ e l. refl }
+
+pub joining-more :
+    {before seconds after : List ℕ} {i : ℕ} → i < length after → Joining before seconds after i
+    → Joining before seconds (set after i (getD after i 0 * wide + getD seconds i 0)) (i + 1)
+joining-more {before} {seconds} {after} {i} l j =
+    record {
+      done =
+          λ e le.
+          split e le
+          (λ (k : e < i). getD-set-other after i e _ 0 (λ (z : e ≡ i). omega arith) ∙ j .done e k)
+          (λ (z : e ≡ i).
+          ap (λ (x : ℕ). getD (set after i (getD after i 0 * wide + getD seconds i 0)) x 0) z
+          ∙ getD-set-same after i _ 0 l
+          ∙ ap (λ (x : ℕ). x * wide + getD seconds i 0) (j .left i (omega arith))
+          ∙ ap (λ (x : ℕ). getD before x 0 * wide + getD seconds x 0) (sym z));
+      left = λ e le. getD-set-other after i e _ 0 (λ (z : e ≡ i). omega arith) ∙ j .left e (omega arith);
+    }
+  where
+    split : {A : Type 0} (e : ℕ) → e < i + 1 → (e < i → A) → (e ≡ i → A) → A
+    split e le past here = ⊎-elim past (λ (k : i ≤ e). here (omega arith)) (less-or e i)
+
+pub joining-end : {before seconds after : List ℕ} {i n : ℕ} → n ≤ i → Joining before seconds after i → Joined before seconds after n
+joining-end le j = record { each = λ e l. j .done e (omega arith) }
+
+-- what is left is narrow as it was
+pub joining-narrow : {before seconds after : List ℕ} {i n bound : ℕ} → Joining before seconds after i → Narrow before n bound → i < n → getD after i 0 < bound
+joining-narrow {i} j w l = rw (j .left i (omega arith)) (w .below i l)
+
+-- PAIRS: numbers that stand for the first parts, joined
+pub stands-narrow : {keys out : List ℕ} {n : ℕ} → n ≤ room → Stands keys out n → Narrow out n room
+stands-narrow small s = record { below = λ i l. let h = s .within i l in omega arith }
+
+part : (a b : ℕ) → b < wide → (a * wide + b) / wide ≡ a
+part a b l = omega arith
+
+pub pairs : {firsts seconds numbers out : List ℕ} {n : ℕ} → n ≤ room → Stands firsts numbers n → Narrow seconds n wide → Joined numbers seconds out n → Pairs firsts seconds out n
+pairs {firsts} {seconds} {numbers} {out} {n} small s w j =
+    record {
+      whole = λ e l. j .each e l ∙ ap (λ (x : ℕ). x * wide + getD seconds e 0) (sym (number e l));
+      same =
+          λ a b y la lb ly.
+          ap₂ eqb (j .each a la) (ap (λ (x : ℕ). x * wide + y) (number b lb))
+          ∙ pair-same wide (getD numbers a 0) (getD seconds a 0) (getD numbers b 0) y (w .below a la) ly
+          ∙ ap (λ (t : Bool). t && eqb (getD seconds a 0) y) (s .same a b la lb);
+      small = λ e l. let h = s .within e l in let q = number e l in omega arith;
+    }
+  where
+    number : (e : ℕ) → e < n → getD out e 0 / wide ≡ getD numbers e 0
+    number e l = ap (λ (x : ℕ). x / wide) (j .each e l) ∙ part (getD numbers e 0) (getD seconds e 0) (w .below e l)
+
+-- A PAIR IS THERE: not where no record has the first part,
+module _ (firsts seconds : List ℕ) (n x y : ℕ) where
+  abbrev pub hasPair : ℕ → Bool
+  hasPair j = eqb (getD firsts j 0) x && eqb (getD seconds j 0) y
+
+  pub no-first : {f : Found} → Sought firsts n x f → f ≡ Nothing → false ≡ any hasPair n
+  unfolding Sought
+  no-first s e =
+      let h = subst (λ (f : Found). Sought firsts n x f) e s in
+      sym (any-false hasPair n (λ k l. ap (λ (t : Bool). t && eqb (getD seconds k 0) y) (ne-eqb (getD firsts k 0) x (h k l))))
+
+  -- where the record found has the second too,
+  pub first-and-second : {f : Found} {j : ℕ} → Sought firsts n x f → f ≡ At j → getD seconds j 0 ≡ y → true ≡ any hasPair n
+  unfolding Sought
+  first-and-second {f} {j} s e q =
+      let h = subst (λ (f : Found). Sought firsts n x f) e s in
+      sym (any-true hasPair n (h .0) (ap₂ _&&_ (eq-eqb (getD firsts j 0) x (h .1)) (eq-eqb (getD seconds j 0) y q)))
+
+  -- and else where the pair's number is
+  pub pair-there :
+      {f : Found} {j : ℕ} {out : List ℕ} {r : Bool} → Sought firsts n x f → f ≡ At j → Pairs firsts seconds out n → y < wide
+      → r ≡ names (listed out) n (getD out j 0 / wide * wide + y) → r ≡ any hasPair n
+  unfolding Sought
+  pair-there {f} {j} {out} s e p ly q =
+      let h = subst (λ (f : Found). Sought firsts n x f) e s in
+      q
+      ∙ any-same _ hasPair n
+      (λ k l. p .same k j y l (h .0) ly ∙ ap (λ (z : ℕ). eqb (getD firsts k 0) z && eqb (getD seconds k 0) y) (h .1))
+
+-- the found record is one of n, and its number is small
+pub found-within : (keys : List ℕ) (n x : ℕ) {f : Found} {j : ℕ} → Sought keys n x f → f ≡ At j → j < n
+unfolding Sought
+found-within keys n x s e = subst (λ (f : Found). Sought keys n x f) e s .0
