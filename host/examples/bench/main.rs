@@ -1,11 +1,15 @@
 //! How long `judge` takes beside the independent checker, on the same deliveries in the same run, both built for release.
 //!
 //! `cargo run --release --example bench` prints the tables of docs/BENCHMARKS.md, `bench -- NAME...` those named: lawful, damaged,
-//! keys, places, records, thread. Times are the least of several turns, taken by turns so that both meet the same state of the
+//! keys, broken, places, records, thread. Times are the least of several turns, taken by turns so that both meet the same state of the
 //! machine; a ratio below 1 says that the library is faster.
 
-#[path = "../tests/places/mod.rs"]
+mod broken;
+mod hostile;
+mod keys;
+#[path = "../../tests/places/mod.rs"]
 mod places;
+mod topology;
 
 use canopyrail::Verdict;
 use deliveries::{damage, full, lawful, write, Files, Random, Size, AIMS};
@@ -226,10 +230,11 @@ fn one_record() {
 
 type Table = (&'static str, fn());
 
-const TABLES: [Table; 6] = [
+const TABLES: [Table; 7] = [
     ("lawful", lawful_deliveries),
     ("damaged", || damaged_deliveries(4_096)),
     ("keys", || repeated_keys(16_384)),
+    ("broken", broken::broken_deliveries),
     ("places", || shared_places(16_384)),
     ("records", one_record),
     ("thread", thread),
