@@ -27,8 +27,10 @@ use Rattle.keys.specs.Groups.{brokenBy}
 use Rattle.keys.specs.Rules.{keysBroken}
 use Rattle.topology.specs.Rules.{topologyBroken}
 use Rattle.judge.specs.Verdict.{judged, verdictOf}
-use Rattle.judge.specs.Broken.{isBroken, placeAt, First, Finds}
-use Rattle.judge.proofs.Exact.{exact}
+use Rattle.judge.specs.Broken.{placeAt}
+use Rattle.judge.specs.machinery.Searched.{brokenIn}
+use Rattle.judge.proofs.Plain.{LeastBroken, FoundFirst}
+use Rattle.judge.proofs.Exact.{found-judged}
 
 -- a file that is not too long has at most 16,384 records
 count-small : (s : List ℕ) (k : Kind) → breaks10 s k ≡ false → countOf s k ≤ limit
@@ -87,8 +89,8 @@ module _ (files : Files) (n : ℕ) (k : Kind) (i f : ℕ) where
   topology-where e = by-where _ k (deliveryOf files k .count) n i f (min-le-left limit (countOf (files k) k)) e
 
   -- a break is at the file's whole records plus 1 at most, where that is more than the limit; and at no field past the last that a record may have
-  broken-where : isBroken files n k i f ≡ true → ((i ≤ countOf (files k) k + 1) ⊎ (i ≤ limit)) × (f ≤ mostFields)
-  unfolding isBroken
+  broken-where : brokenIn files n k i f ≡ true → ((i ≤ countOf (files k) k + 1) ⊎ (i ≤ limit)) × (f ≤ mostFields)
+  unfolding brokenIn
   broken-where e = go (n / 10) refl e
     where
       tests : List Bool
@@ -111,8 +113,8 @@ module _ (files : Files) (n : ℕ) (k : Kind) (i f : ℕ) where
       go (suc (suc (suc (suc (suc (suc t)))))) q h = absurd (true-false (sym h))
 
 -- A PLACE THAT IS SHOWN: were its file too long, that would be told before
-long-broken : (files : Files) (k : Kind) → breaks10 (files k) k ≡ true → isBroken files 10 k 0 0 ≡ true
-unfolding isBroken broken testsAt
+long-broken : (files : Files) (k : Kind) → breaks10 (files k) k ≡ true → brokenIn files 10 k 0 0 ≡ true
+unfolding brokenIn broken testsAt
 long-broken files k e = rw e
 
 pub less-first : (x y : ℕ) (xs ys : List ℕ) → x < y → before (x ∷ xs) (y ∷ ys) ≡ true
@@ -131,16 +133,16 @@ long-before k n i f l h =
     (eq-or-lt-of-le l)
 
 -- nothing of the lowest ten is a reason
-ten-up : (files : Files) (n : ℕ) (k : Kind) (i f : ℕ) → isBroken files n k i f ≡ true → 1 ≤ n / 10
-unfolding isBroken
+ten-up : (files : Files) (n : ℕ) (k : Kind) (i f : ℕ) → brokenIn files n k i f ≡ true → 1 ≤ n / 10
+unfolding brokenIn
 ten-up files n k i f e = go (n / 10) refl
   where
     go : (t : ℕ) → n / 10 ≡ t → 1 ≤ n / 10
     go zero q = absurd (true-false (sym (rw q at e)))
     go (suc t) q = omega arith
 
-record-small : (files : Files) (n : ℕ) (k : Kind) (i f : ℕ) → isBroken files n k i f ≡ true
-    → ((n' : ℕ) (k' : Kind) (i' f' : ℕ) → isBroken files n' k' i' f' ≡ true → before (placeAt n' k' i' f') (placeAt n k i f) ≡ true → ⊥)
+record-small : (files : Files) (n : ℕ) (k : Kind) (i f : ℕ) → brokenIn files n k i f ≡ true
+    → ((n' : ℕ) (k' : Kind) (i' f' : ℕ) → brokenIn files n' k' i' f' ≡ true → before (placeAt n' k' i' f') (placeAt n k i f) ≡ true → ⊥)
     → i ≤ limit + 1
 record-small files n k zero f e least = omega arith
 record-small files n k (suc i) f e least =
@@ -158,10 +160,10 @@ record-small files n k (suc i) f e least =
         go false q = refl
 
 pub place-fits : (files : Files) (b : Break) → judged files ≡ Broken b → (b .file ≤ fileCount) × (b .«record» ≤ limit + 1) × (b .field ≤ mostFields)
-unfolding Finds verdictOf
-place-fits files b e = go (subst (Finds files) e (exact files .finds))
+unfolding FoundFirst
+place-fits files b e = go (subst (FoundFirst files) e (found-judged files))
   where
-    go : First files b → (b .file ≤ fileCount) × (b .«record» ≤ limit + 1) × (b .field ≤ mostFields)
+    go : LeastBroken files b → (b .file ≤ fileCount) × (b .«record» ≤ limit + 1) × (b .field ≤ mostFields)
     go w =
         let p = broken-where files (w .n) (w .k) (w .i) (w .f) (w .really) in
         let s = w .shown in (

@@ -40,8 +40,10 @@ use Rattle.keys.specs.Groups.{brokenBy}
 use Rattle.keys.specs.Rules.{orFirst, firstWith, refersToCatalogue, mistyped, typedIn, breaks41, keyTests, keyReasons, keysBroken}
 use Rattle.topology.specs.Rules.{fiftyReasons, topologyBroken}
 use Rattle.judge.specs.Verdict.{judged, verdictOf}
-use Rattle.judge.specs.Broken.{isBroken, reasonOf, placeAt, First, Finds}
-use Rattle.judge.proofs.Exact.{exact}
+use Rattle.judge.specs.Broken.{reasonOf, placeAt}
+use Rattle.judge.specs.machinery.Searched.{brokenIn}
+use Rattle.judge.proofs.Plain.{LeastBroken, FoundFirst}
+use Rattle.judge.proofs.Exact.{found-judged}
 use Rattle.canopyrail.specs.Answers.{otherOf, breakWord, findingWord, reasonIn, fileIn, recordIn, fieldIn, otherIn}
 use Rattle.canopyrail.proofs.Fits.{keys-where, topology-where, less-first, place-fits}
 use Rattle.canopyrail.proofs.Border.{apart, other-apart}
@@ -128,19 +130,19 @@ catalogued d k i f e =
     and-true (names (λ j. nameAt Catalogo (d Catalogo) j 1) (d Catalogo .count) x) (not (typedIn (letterOf k) (d Catalogo) x)) q .0
 
 module _ (files : Files) (n : ℕ) (k : Kind) (i f : ℕ)
-    (least : (n' : ℕ) (k' : Kind) (i' f' : ℕ) → isBroken files n' k' i' f' ≡ true → before (placeAt n' k' i' f') (placeAt n k i f) ≡ true → ⊥) where
+    (least : (n' : ℕ) (k' : Kind) (i' f' : ℕ) → brokenIn files n' k' i' f' ≡ true → before (placeAt n' k' i' f') (placeAt n k i f) ≡ true → ⊥) where
   -- where a higher ten is shown, no record breaks 20 to 25
   module _ (j : ℕ) (h : 2 < n / 10) (l : j < countOf (files Catalogo) Catalogo) where
-    not-told : (m : ℕ) (b : Bool) → m / 10 ≡ 2 → isBroken files m Catalogo (j + 1) 2 ≡ b → b ≡ false
+    not-told : (m : ℕ) (b : Bool) → m / 10 ≡ 2 → brokenIn files m Catalogo (j + 1) 2 ≡ b → b ≡ false
     not-told m true q e = absurd (least m Catalogo (j + 1) 2 e (less-first (m / 10) (n / 10) _ _ (omega (arith, q, h))))
     not-told m false q e = refl
 
     lawful-23 : breaks23 (recordOf (files Catalogo) Catalogo j) Catalogo 2 ≡ false
-    unfolding isBroken broken
+    unfolding brokenIn broken
     lawful-23 = not-told 23 _ refl (twenty-at (files Catalogo) Catalogo j 2 3 l (omega arith))
 
     lawful-25 : breaks25 (recordOf (files Catalogo) Catalogo j) Catalogo 2 ≡ false
-    unfolding isBroken broken
+    unfolding brokenIn broken
     lawful-25 = not-told 25 _ refl (twenty-at (files Catalogo) Catalogo j 2 5 l (omega arith))
 
   -- so the letter of a code that is catalogued is in its domain
@@ -161,8 +163,8 @@ module _ (files : Files) (n : ℕ) (k : Kind) (i f : ℕ)
           letter-small (recordOf (files Catalogo) Catalogo j) (lawful-23 j h l) (lawful-25 j h l)
 
   -- WHAT IS SHOWN, by the tens of the reason and the reason
-  reason-fits : isBroken files n k i f ≡ true → otherOf (reasonOf files n k i f) ≤ most (reasonOf files n k i f)
-  unfolding isBroken reasonOf keyReasons fiftyReasons keysBroken brokenBy keyTests each
+  reason-fits : brokenIn files n k i f ≡ true → otherOf (reasonOf files n k i f) ≤ most (reasonOf files n k i f)
+  unfolding brokenIn reasonOf keyReasons fiftyReasons keysBroken brokenBy keyTests each
   reason-fits e = go (n / 10) (n % 10) refl refl e
     where
       d : Delivery
@@ -207,10 +209,10 @@ module _ (files : Files) (n : ℕ) (k : Kind) (i f : ℕ)
       go (suc (suc (suc (suc (suc (suc t)))))) u p q h = none-told
 
 pub other-fits : (files : Files) (b : Break) → judged files ≡ Broken b → otherOf (b .reason) ≤ pick (eqb (numberOf (b .reason)) 41) 255 limit
-unfolding Finds verdictOf
-other-fits files b e = go (subst (Finds files) e (exact files .finds))
+unfolding FoundFirst
+other-fits files b e = go (subst (FoundFirst files) e (found-judged files))
   where
-    go : First files b → otherOf (b .reason) ≤ most (b .reason)
+    go : LeastBroken files b → otherOf (b .reason) ≤ most (b .reason)
     go w = rw (ap (λ (x : Break). x .reason) (w .shown)) (reason-fits files (w .n) (w .k) (w .i) (w .f) (w .least) (w .really))
 
 -- THE ANSWER: all that is shown is had back from it

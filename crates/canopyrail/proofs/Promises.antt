@@ -37,7 +37,7 @@ use Rattle.judge.specs.declared.judge.Verdict.{Verdict}
 use Rattle.judge.specs.declared.line.Line.{Line}
 use Rattle.judge.specs.Verdict.{judged, verdictOf}
 use Rattle.judge.specs.Line.{big, programLine, lineIn}
-use Rattle.judge.specs.Broken.{Judges}
+use Rattle.judge.specs.Broken.{holds, placeAt, Judges}
 use Rattle.judge.specs.Words.{SameButWords}
 use Rattle.judge.specs.Obeys.{Records, Obeys, madeOf, accepted, Shuffled}
 use Rattle.judge.specs.Cases.{outcome, table}
@@ -187,12 +187,26 @@ pub refused-writing-tells :
 refused-writing-tells = border.written-tells
 
 -- 3. THE VERDICT. Its finding is Fine exactly if no rule is broken; else it is the break that is broken and before which none is. Its
--- counts are the whole records of each file. Only one verdict means that.
+-- counts are the whole records of each file. Only one verdict means that. (A rule is broken where its test holds and no test of a lower ten
+-- does.)
 pub exact : (files : Files) → Judges files (verdictOf files)
 exact = exactly.exact
 
 pub exact-one : (files : Files) (v w : Verdict) → Judges files v → Judges files w → v ≡ w
 exact-one = exactly.exact-one
+
+-- It would be the same if rules were read whatever lower tens have: accepted exactly if no test holds anywhere; else no test holds before the
+-- break shown.
+pub accepted-plainly :
+    (files : Files)
+    → (judged files ≡ Fine → (n : ℕ) (k : Kind) (i f : ℕ) → holds files n k i f ≡ false)
+    × (((n : ℕ) (k : Kind) (i f : ℕ) → holds files n k i f ≡ false) → judged files ≡ Fine)
+accepted-plainly = exactly.accepted-plainly
+
+pub first-plainly :
+    (files : Files) (b : Break) → judged files ≡ Broken b → (n : ℕ) (k : Kind) (i f : ℕ) → holds files n k i f ≡ true
+    → before (placeAt n k i f) (numberOf (b .reason) / 10 ∷ b .file ∷ b .«record» ∷ b .field ∷ numberOf (b .reason) ∷ []) ≡ true → ⊥
+first-plainly = exactly.first-plainly
 
 -- The library's answer is 0 exactly if the delivery is accepted;
 pub accepted-is-zero : (files : Files) → judged files ≡ Fine → findingWord (judged files) ≡ 0

@@ -10,7 +10,6 @@ use native.Mathlib.Nat.{eq-or-lt-of-le}
 use native.Mathlib.Omega.{arith}
 use lib.Dec.{ltb}
 use lib.ListN.{length, getD}
-use borrow.Author.Count.{below-none, below-more}
 use borrow.Author.Tests.{eq-eqb, ne-eqb, lt-ltb, le-ltb}
 use Rattle.laws.specs.Find.{firstIndex, orEnd}
 use Rattle.laws.proofs.FindLaws.{true-false, index-none, index-here}
@@ -21,7 +20,8 @@ use Rattle.index.specs.Hint.{slotOf, guessOf, Guessed}
 use Rattle.index.specs.Way.{uptoOf, lastAt, findOf, isFound, Complete, lookOf, Ready}
 use Rattle.index.specs.declared.Found.{Found}
 use Rattle.index.specs.declared.Found.the-variants.{At, Nothing}
-use Rattle.index.proofs.HintLaws.{strays, own, guess-pointed, pointed-at, guessed-record}
+use Rattle.index.specs.declared.way.Way.{Way}
+use Rattle.index.proofs.HintLaws.{Laid, laid-at, guessed-record}
 
 -- HALVING ends where the definition says
 pub bracket-upto : {keys order : List ℕ} {n limit c : ℕ} → Bracket keys order n limit c c → c ≡ uptoOf keys order n limit
@@ -59,28 +59,10 @@ module _ (keys order : List ℕ) (n x : ℕ) {f : Found} (same : f ≡ lastAt or
   unfolding findOf
   find-other {r} e q = rw (← same, e, ne-eqb (getD keys r 0) x q)
 
--- HINTS: where each key's look-up ends at its own record, each is found
-pub strays-complete : (keys hints : List ℕ) (n : ℕ) → n ≤ length keys → firstIndex (strays keys hints) n ≡ none → Complete keys hints n
+-- HINTS: where a table was filled and each key has its place, each is found
+pub laid-complete : {keys hints : List ℕ} {n i : ℕ} {apart : Bool} → Laid keys hints n i apart → n ≤ i → n ≤ length keys → Complete keys hints n
 unfolding Complete
-strays-complete keys hints n room e i l =
-    let h = own keys hints n {j = i} e l in
-    let p = pointed-at keys n (getD keys i 0) (getD hints (slotOf keys hints (getD keys i 0)) 0) (λ z. omega arith) (omega arith) (omega arith) (ap (λ (j : ℕ). getD keys j 0) (omega arith)) in
-    ap isFound (sym (guess-pointed keys hints n (getD keys i 0) refl refl p))
-
--- a loop's: each of the first i is found
-pub complete-start : (keys hints : List ℕ) (n : ℕ) → (j : ℕ) → j < 0 → isFound (guessOf keys hints n (getD keys j 0)) ≡ true
-complete-start keys hints n = below-none _
-
-pub complete-more :
-    (keys hints : List ℕ) (n : ℕ) {i x r : ℕ} {f : Found} → ((j : ℕ) → j < i → isFound (guessOf keys hints n (getD keys j 0)) ≡ true)
-    → x ≡ getD keys i 0 → f ≡ guessOf keys hints n x → f ≡ At r → (j : ℕ) → j < i + 1 → isFound (guessOf keys hints n (getD keys j 0)) ≡ true
-complete-more keys hints n {i} all p q e =
-    below-more (λ (j : ℕ). isFound (guessOf keys hints n (getD keys j 0)) ≡ true) i all (rw (← p, ← q, e))
-
-pub complete-end :
-    (keys hints : List ℕ) (n : ℕ) {i : ℕ} → n ≤ i → ((j : ℕ) → j < i → isFound (guessOf keys hints n (getD keys j 0)) ≡ true) → Complete keys hints n
-unfolding Complete
-complete-end keys hints n le all j l = all j (omega arith)
+laid-complete m end fits j l = ap isFound (laid-at m end fits j l .1)
 
 -- then a guess finds what is there
 pub guess-sought :
@@ -92,11 +74,8 @@ guess-sought keys hints n x (At r) all g e = guessed-record keys n x g refl
 
 -- A WAY, by hints,
 module _ (keys order hints : List ℕ) {n : ℕ} (small : n ≤ room) (fits : n ≤ length keys) where
-  pub way-apart : Complete keys hints n → firstDuplicate (listed keys) n ≡ none → Ready keys order hints n (record { hinted = true; apart = true })
-  way-apart all d = record { small = small; keys-room = fits; hinted = λ e. all; sorted = λ e. absurd (true-false e); apart = λ e. d }
-
-  pub way-hinted : Complete keys hints n → Ready keys order hints n (record { hinted = true; apart = false })
-  way-hinted all = record { small = small; keys-room = fits; hinted = λ e. all; sorted = λ e. absurd (true-false e); apart = λ e. absurd (true-false (sym e)) }
+  pub way-hinted : {way : Way} → way .hinted ≡ true → Complete keys hints n → (way .apart ≡ true → firstDuplicate (listed keys) n ≡ none) → Ready keys order hints n way
+  way-hinted h all d = record { small = small; keys-room = fits; hinted = λ e. all; sorted = λ e. absurd (true-false (sym h ∙ e)); apart = d }
 
   -- or by halving
   pub way-sorted : {t : Bool} → Index keys order n → (t ≡ true → firstDuplicate (listed keys) n ≡ none) → Ready keys order hints n (record { hinted = false; apart = t })

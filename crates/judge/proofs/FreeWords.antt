@@ -37,7 +37,10 @@ use Rattle.record.proofs.FindingLaws.{inFile, fields-is, shape-is}
 use Rattle.keys.specs.Groups.{breakIn, overFiles}
 use Rattle.keys.proofs.Agree.{Agrees, isRead, keys-agree}
 use Rattle.topology.proofs.Agree.{topology-agree}
-use Rattle.judge.specs.Verdict.{groups, groupAt, judged, countsOf, verdictOf}
+use Rattle.judge.specs.Broken.{groups}
+use Rattle.judge.specs.Verdict.{judged, countsOf, verdictOf}
+use Rattle.judge.specs.machinery.Searched.{groupAt, searched}
+use Rattle.judge.proofs.Exact.{searched-is}
 use Rattle.judge.specs.Words.{inFree, SameButWords}
 
 -- THE TABLE: a test of the places of every kind, computed once, holds at each
@@ -279,8 +282,8 @@ module _ (files others : Files) (w : SameButWords files others) where
       rw (ap overFiles (fun-ext shape-same), ap overFiles (fun-ext fields-same), keys-agree agree 3, keys-agree agree 4, topology-agree agree)
 
   judged-same : judged files ≡ judged others
-  unfolding judged
-  judged-same = ap findingOf (first-same _ _ (groups + 1) (λ t l. ap breakIn (group-same t)))
+  unfolding searched
+  judged-same = sym (searched-is files) ∙ ap findingOf (first-same _ _ (groups + 1) (λ t l. ap breakIn (group-same t))) ∙ searched-is others
 
   counts-same : countsOf files ≡ countsOf others
   unfolding countsOf

@@ -3,11 +3,12 @@ pub mod LineLaws
 pub mod CutShort
 pub mod FreeWords
 pub mod NoneBroken
-pub mod Tens
+pub mod SaidLaws
 pub mod Made
 pub mod Turns
 pub mod Rearranged
 pub mod Shuffle
 pub mod Writer
+pub mod Plain
 pub mod Exact
 pub mod Cases

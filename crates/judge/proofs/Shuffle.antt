@@ -9,6 +9,7 @@ use Rattle.codec.specs.declared.values.Values.{Values}
 use Rattle.codec.specs.Values.{valuesSay}
 use Rattle.codec.specs.Refusals.{sixties}
 use Rattle.judge.specs.Obeys.{Records, noValues, valuesAt, tablesOf, Obeys, Shuffled}
+use Rattle.judge.proofs.SaidLaws.{said-keys, said-topology, both-said}
 use Rattle.judge.proofs.Rearranged.{Rearranged, keys-rearranged, topology-rearranged}
 
 module _ (vs ws : Records) (sh : (k : Kind) → Shuffled (vs k) (ws k)) where
@@ -38,6 +39,8 @@ module _ (vs ws : Records) (sh : (k : Kind) → Shuffled (vs k) (ws k)) where
         fields = λ k i f u l m.
             let b : i < length (vs k) = rw (sh k .long) at l in
             ap (λ (x : Values). getD (sixties k (valuesSay k x) f) u false) (moved-at k i b) ∙ o .fields k (sh k .to i) f u (sh k .to-within i b) m;
-        keys = keys-rearranged (tablesOf vs) (tablesOf ws) tables-shuffled (o .keys);
-        topology = topology-rearranged (tablesOf vs) (tablesOf ws) tables-shuffled (o .topology);
+        rules = λ n k i f.
+            both-said (tablesOf ws) n k i f
+            (keys-rearranged (tablesOf vs) (tablesOf ws) tables-shuffled (λ k n i f. said-keys (tablesOf vs) n k i f (o .rules n k i f)) k n i f)
+            (topology-rearranged (tablesOf vs) (tablesOf ws) tables-shuffled (λ k n i f. said-topology (tablesOf vs) n k i f (o .rules n k i f)) k n i f);
       }

@@ -3,7 +3,7 @@
 use Prim.Native.Nat.{ℕ, zero, suc, _+_, _<_}
 use mathlib.Core.Bool.{false}
 use mathlib.Core.List.{map}
-use mathlib.Core.Path.{_≡_, refl, ap, fun-ext, _∙_}
+use mathlib.Core.Path.{_≡_, refl, sym, ap, fun-ext, _∙_}
 use native.Mathlib.Omega.{arith}
 use lib.ListN.{length}
 use Rattle.laws.proofs.FindLaws.{first-none}
@@ -19,12 +19,16 @@ use Rattle.codec.proofs.AllFalse.{values-fine}
 use Rattle.keys.specs.Groups.{breakIn}
 use Rattle.keys.specs.Rules.{keyTests, keyReasons, keysBroken, keysIn, keysFinding}
 use Rattle.topology.specs.Rules.{fiftyReasons, topologyTests, topologyBroken, topologyIn, topologyFinding}
-use Rattle.judge.specs.Verdict.{groups, groupAt, judged, countsOf, verdictOf}
+use Rattle.judge.specs.Broken.{groups}
+use Rattle.judge.specs.Verdict.{judged, countsOf, verdictOf}
+use Rattle.judge.specs.machinery.Searched.{groupAt, searched}
 use Rattle.judge.specs.Obeys.{Records, valuesAt, tablesOf, Obeys, madeOf, Shuffled, lengthsOf, accepted}
 use Rattle.judge.proofs.NoneBroken.{over-fine, none-broken-fine}
+use Rattle.judge.proofs.SaidLaws.{said-keys, said-topology}
 use Rattle.judge.proofs.Made.{count-written, shape-written, fields-written, said-written}
 use Rattle.judge.proofs.Rearranged.{Rearranged, keys-rearranged, topology-rearranged}
 use Rattle.judge.proofs.Shuffle.{shuffled-obeys}
+use Rattle.judge.proofs.Exact.{searched-is}
 
 -- where nothing is broken, nothing is found
 pub keys-fine : (d : Delivery) → ((k : Kind) (n i f : ℕ) → keysBroken d k n i f ≡ false) → (t : ℕ) → keysFinding t d ≡ Fine
@@ -51,10 +55,10 @@ module _ (vs : Records) (o : Obeys vs) where
 
   -- and so break no rule that these keep
   keys-made : (k : Kind) (n i f : ℕ) → keysBroken (deliveryOf (madeOf vs)) k n i f ≡ false
-  keys-made = keys-rearranged (tablesOf vs) (deliveryOf (madeOf vs)) tables-made (o .keys)
+  keys-made = keys-rearranged (tablesOf vs) (deliveryOf (madeOf vs)) tables-made (λ k n i f. said-keys _ n k i f (o .rules n k i f))
 
   topology-made : (k : Kind) (n i f : ℕ) → topologyBroken (deliveryOf (madeOf vs)) k n i f ≡ false
-  topology-made = topology-rearranged (tablesOf vs) (deliveryOf (madeOf vs)) tables-made (o .topology)
+  topology-made = topology-rearranged (tablesOf vs) (deliveryOf (madeOf vs)) tables-made (λ k n i f. said-topology _ n k i f (o .rules n k i f))
 
   group-fine : (t : ℕ) → groupAt (madeOf vs) t ≡ Fine
   unfolding groupAt
@@ -67,8 +71,8 @@ module _ (vs : Records) (o : Obeys vs) where
   group-fine (suc (suc (suc (suc (suc (suc t)))))) = refl
 
   made-fine : judged (madeOf vs) ≡ Fine
-  unfolding judged
-  made-fine = ap findingOf (first-none _ (groups + 1) (λ t l. ap breakIn (group-fine t)))
+  unfolding searched
+  made-fine = sym (searched-is (madeOf vs)) ∙ ap findingOf (first-none _ (groups + 1) (λ t l. ap breakIn (group-fine t)))
 
   made-counts : countsOf (madeOf vs) ≡ lengthsOf vs
   unfolding countsOf

@@ -13,9 +13,8 @@ use Rattle.codec.specs.declared.values.Values.{Values}
 use Rattle.codec.specs.Values.{noValue, valuesSay}
 use Rattle.codec.specs.Writes.{encode}
 use Rattle.codec.specs.Refusals.{sixties}
-use Rattle.keys.specs.Rules.{keysBroken}
-use Rattle.topology.specs.Rules.{topologyBroken}
 use Rattle.judge.specs.declared.judge.Verdict.{Verdict}
+use Rattle.judge.specs.Broken.{saidHolds}
 
 -- for each file the values of its records
 abbrev pub Records : Type 0
@@ -32,12 +31,11 @@ valuesAt vs k i = getD (vs k) i noValues
 abbrev pub tablesOf : Records → Delivery
 tablesOf vs k = record { count = length (vs k); says = λ i f. valuesSay k (valuesAt vs k i) f }
 
--- at most 16,384 records a file, no test of 62 to 65 holds of a record's values, and no rule of keys, references and topology is broken
+-- at most 16,384 records a file, no test of 62 to 65 holds of a record's values, and no test from 30 on holds of what they say
 pub record Obeys (vs : Records) : Type 0 where
   pub few : (k : Kind) → length (vs k) ≤ limit
   pub fields : (k : Kind) (i f u : ℕ) → i < length (vs k) → f ≤ fieldsOf k → getD (sixties k (valuesSay k (valuesAt vs k i)) f) u false ≡ false
-  pub keys : (k : Kind) (n i f : ℕ) → keysBroken (tablesOf vs) k n i f ≡ false
-  pub topology : (k : Kind) (n i f : ℕ) → topologyBroken (tablesOf vs) k n i f ≡ false
+  pub rules : (n : ℕ) (k : Kind) (i f : ℕ) → saidHolds (tablesOf vs) n k i f ≡ false
 
 -- the records' bytes, one after another
 unfoldable pub writtenOf : Kind → List Values → List ℕ

@@ -1,6 +1,5 @@
 // The verdict on a delivery: seven files in, the counts and the first break out.
 use keys::group::check_keys;
-use lawful::lawful::shown_lawful;
 use record::check::check_fields;
 use record::check::check_shape;
 use record::cut::records;
@@ -13,17 +12,15 @@ use record::reason::Finding;
 use topology::group::check_topology;
 ghost use mathlib.Core.Path.{_≡_};
 ghost use mathlib.Core.List.{List, map};
-ghost use mathlib.Core.Option.{none};
-ghost use Prim.Native.Nat.{ℕ, _≤_, _<_};
-ghost use Rattle.laws.specs.Find.{firstOf};
+ghost use Prim.Native.Nat.{ℕ};
 ghost use Rattle.laws.specs.Row.{pick};
-ghost use lib.Dec.{eqb};
 ghost use Rattle.record.specs.Files.{filesOf};
 ghost use Rattle.record.specs.Table.{onFile};
 ghost use Rattle.record.specs.Cut.{countOf};
-ghost use Rattle.record.specs.Breaks.{findingOf, shapeFinding, fieldsFinding};
-ghost use Rattle.keys.specs.Groups.{breakIn, atFile, overFiles};
-ghost use Rattle.judge.specs.Verdict.{groupAt, judged, countsOf, verdictOf};
+ghost use Rattle.record.specs.Breaks.{shapeFinding, fieldsFinding};
+ghost use Rattle.keys.specs.Groups.{atFile, overFiles};
+ghost use Rattle.judge.specs.Verdict.{countsOf, verdictOf};
+ghost use Rattle.judge.specs.machinery.Searched.{groupAt, searched};
 
 // The groups of reasons, by their tens: 10 to 50.
 pub const GROUPS: usize = 5;
@@ -84,13 +81,12 @@ fn check_group<'a>(t: usize, files: [&'a [u8]; FILES]) -> Finding
     }
 }
 
-// The first break of the tens below `end`, where those below `from` have none.
-fn first_from<'a>(from: usize, end: usize, files: [&'a [u8]; FILES]) -> Finding
-    requires { ⌜ (from ≤ end) × (firstOf (λ n. breakIn (groupAt (filesOf (map now files)) n)) from ≡ none) ⌝ }
-    ensures { λ r. ⌜ r ≡ findingOf (firstOf (λ n. breakIn (groupAt (filesOf (map now (files .entry))) n)) end) ⌝ }
+// The first break. A rule of a higher ten is read only where no lower ten has a break.
+fn first_break<'a>(files: [&'a [u8]; FILES]) -> Finding
+    ensures { λ r. ⌜ r ≡ searched (filesOf (map now (files .entry))) ⌝ }
 {
-    let mut t = from;
-    while t < end {
+    let mut t = 0;
+    while t <= GROUPS {
         let v = check_group(t, files);
         if v.is_fine() {
             t += 1;
@@ -99,22 +95,6 @@ fn first_from<'a>(from: usize, end: usize, files: [&'a [u8]; FILES]) -> Finding
         }
     }
     Finding::Fine
-}
-
-// The first break. A rule of a higher ten is read only where no lower ten has a break; of the tens from 3 on a quick look shows,
-// mostly, that a lawful delivery has none.
-fn first_break<'a>(files: [&'a [u8]; FILES]) -> Finding
-    ensures { λ r. ⌜ r ≡ judged (filesOf (map now (files .entry))) ⌝ }
-{
-    let v = first_from(0, 3, files);
-    if v.is_fine() {
-        if shown_lawful(files) {
-            return Finding::Fine;
-        }
-        first_from(3, GROUPS + 1, files)
-    } else {
-        v
-    }
 }
 
 fn count_of<'a>(which: Which, files: [&'a [u8]; FILES]) -> usize

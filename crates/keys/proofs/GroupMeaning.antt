@@ -31,7 +31,8 @@ use Rattle.record.proofs.TableLaws.{sane, which-file}
 use Rattle.record.specs.Files.{Delivery}
 use Rattle.keys.specs.Rules.{keyTests, keyReasons, keysIn, keysBroken}
 use Rattle.keys.specs.Groups.{Tests, Reasons, cellsOf, groupFinding, brokenBy, breakIn, atFile, overFiles}
-use Rattle.keys.proofs.CellLaws.{Clear, Least, firstCell, none-cells, some-cells, cellTest, cellAnswer, group-is}
+use Rattle.keys.specs.machinery.Cells.{cellTest}
+use Rattle.keys.proofs.CellLaws.{Clear, Least, firstCell, none-cells, some-cells, cellAnswer, group-is}
 
 before-none : before [] [] ≡ true → ⊥
 unfolding before

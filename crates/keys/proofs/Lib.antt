@@ -4,6 +4,8 @@ pub mod TypeLaws
 pub mod CellLaws
 pub mod OverLaws
 pub mod KeyCells
+pub mod KeyTallies
+pub mod LentLaws
 pub mod GroupMeaning
 pub mod Shown
 pub mod Agree

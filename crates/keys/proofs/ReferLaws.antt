@@ -12,11 +12,10 @@ use lib.Dec.{eqb}
 use lib.ListN.{length, getD}
 use borrow.Author.Tests.{eq-eqb, ne-eqb}
 use Rattle.laws.specs.Find.{firstIndex, names}
-use Rattle.laws.specs.Count.{bit}
 use Rattle.laws.proofs.FindLaws.{true-false, index-same, index-none, index-none-at, any-same, any-true, any-false, any-no}
 use Rattle.index.specs.Keys.{listed, firstDuplicate}
 use Rattle.index.specs.Look.{Sought}
-use Rattle.index.specs.Marks.{Marked}
+use Rattle.index.specs.declared.tally.Tally.{Tally}
 use Rattle.index.specs.declared.Found.{Found}
 use Rattle.index.specs.declared.Found.the-variants.{At, Nothing}
 use Rattle.index.proofs.OrderLaws.{less-or}
@@ -27,6 +26,8 @@ use Rattle.record.specs.Says.{Table, letterIn}
 use Rattle.record.specs.machinery.Columns.{Fills}
 use Rattle.record.specs.Names.{nameAt}
 use Rattle.keys.specs.Rules.{dangles, typedIn, mistyped}
+use Rattle.keys.specs.machinery.Cells.{OneMore}
+use Rattle.keys.proofs.CellLaws.{one-as}
 
 -- A NAME that dangles, where r is whether a record has it
 module _ (key : ℕ → ℕ) (n x : ℕ) where
@@ -53,11 +54,10 @@ module _ {l : List ℕ} {key : ℕ → ℕ} {m n : ℕ} (fills : Fills l key m n
   index-filled p q same =
       rw (fills .count) (index-same _ _ m (λ k u. same (getD l k 0) ∙ ap q (fills .holds k u)))
 
-  -- and so do marks
-  pub marked-filled :
-      {before after : List ℕ} (p q : ℕ → Bool) → ((x : ℕ) → p x ≡ q x) → Marked before after (λ i. p (getD l i 0)) n → Marked before after (λ i. q (key i)) m
-  marked-filled p q same s =
-      record { long = s .long; says = λ i u. s .says i (omega (arith, fills .count)) ∙ ap bit (same (getD l i 0) ∙ ap q (fills .holds i u)) }
+  -- and so does a cell of a tally
+  pub one-filled :
+      {t r : Tally} {c : ℕ} (p q : ℕ → Bool) → ((x : ℕ) → p x ≡ q x) → OneMore t (λ i. p (getD l i 0)) n c r → OneMore t (λ i. q (key i)) m c r
+  one-filled p q same s = one-as (fills .count) (λ i u. same (getD l i 0) ∙ ap q (fills .holds i u)) s
 
   pub fills-limit : n ≤ limit
   fills-limit = omega (arith, fills .count, fills .small)

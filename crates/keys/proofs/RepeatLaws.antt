@@ -10,18 +10,18 @@ use Rattle.laws.specs.Find.{firstIndex, names}
 use Rattle.laws.specs.Count.{bit}
 use Rattle.laws.proofs.FindLaws.{any-same}
 use Rattle.index.specs.declared.Found.{Found}
-use Rattle.index.specs.Keys.{foundOf, listed, duplicateIn}
+use Rattle.index.specs.Keys.{foundOf, listed, firstDuplicate}
 use Rattle.index.specs.Marks.{Marked}
-use Rattle.index.proofs.TwiceLaws.{duplicate-fits, duplicate-filled}
+use Rattle.index.proofs.TwiceLaws.{duplicate-filled}
 use Rattle.record.specs.machinery.Columns.{Fills}
 use Rattle.keys.specs.Rules.{repeats}
 
 -- what is found in the array is the column's
-pub repeat-filled : {out : List ℕ} (column : ℕ → ℕ) {n r : ℕ} {found : Found} → Fills out column n r → found ≡ foundOf (duplicateIn out r)
+pub first-filled :
+    {out : List ℕ} (column : ℕ → ℕ) {n r : ℕ} {found : Found} → Fills out column n r → found ≡ foundOf (firstDuplicate (listed out) r)
     → found ≡ foundOf (firstIndex (λ i. repeats column i) n)
 unfolding repeats
-repeat-filled {out} column {n} {r} f h =
-    h ∙ ap foundOf (duplicate-fits out r (omega (arith, f .small, f .long, f .count)) (omega (arith, f .small, f .count))) ∙ rw (f .count) (ap foundOf (duplicate-filled column out n (f .holds)))
+first-filled {out} column {n} f h = h ∙ rw (f .count) (ap foundOf (duplicate-filled column out n (f .holds)))
 
 -- and so are the marks
 pub repeats-filled :

@@ -12,7 +12,8 @@ use Rattle.record.specs.Breaks.{numberOf, breakOf}
 use Rattle.record.specs.Files.{Delivery}
 use Rattle.keys.specs.Rules.{keyTests, keyReasons, keysIn}
 use Rattle.keys.specs.Groups.{Tests, Reasons, cellsOf, groupFinding}
-use Rattle.keys.proofs.CellLaws.{some-cells, cellTest, cellAnswer, group-is}
+use Rattle.keys.specs.machinery.Cells.{cellTest}
+use Rattle.keys.proofs.CellLaws.{some-cells, cellAnswer, group-is}
 use Rattle.keys.proofs.GroupMeaning.{Numbered, key-numbered, finding-some}
 
 -- the break is that of the reasons' list at its own place and number

@@ -1,3 +1,4 @@
 pub mod Cells
+pub mod Lent
 pub mod Marks
 pub mod Types

@@ -1,16 +1,25 @@
-// The first break of the thirties and forties in a file and in a delivery. A file's first break is sought by cells, ten a field, one
-// for each reason: the first record of each cell, and of those the least.
-use crate::refer::mark_dangling;
-use crate::refer::mark_mistyped;
-use crate::refer::mark_present;
-use crate::repeat::first_repeat;
-use crate::repeat::mark_repeated;
-use index::Found;
-use index::marks::first_marked;
+// The thirties and forties in a file and in a delivery: the tally of each file's breaks, and the first break of all. A file's breaks are
+// tallied by cells, ten a field, one for each reason.
+//
+// Columns are read into arrays that are lent: short ones where no file has more than a few records, so that a small delivery clears no
+// long ones. The catalogue's codes are read and prepared once, for all files.
+use crate::refer::tally_codes;
+use crate::refer::tally_dangling;
+use crate::refer::tally_present;
+use crate::repeat::tally_repeats;
+use index::FEW_HINTS;
+use index::HINTS;
+use index::tally::Tally;
+use index::tally::no_tally;
+use index::way::Way;
+use index::way::prepare;
 use record::check::break_of;
 use record::columns::letter;
 use record::columns::rows;
+use record::files::all_few;
 use record::files::file_of;
+use record::fill::fill_names;
+use record::kind::FEW;
 use record::kind::FILES;
 use record::kind::Kind;
 use record::kind::LIMIT;
@@ -22,91 +31,20 @@ use record::names::record_key;
 use record::reason::Finding;
 use record::reason::Reason;
 ghost use mathlib.Core.Path.{_≡_};
-ghost use mathlib.Core.Bool.{false};
 ghost use mathlib.Core.List.{List, map};
-ghost use Prim.Native.Nat.{ℕ, _≤_, _<_};
+ghost use Prim.Native.Nat.{ℕ, _+_, _-_, _*_, _≤_, _<_};
 ghost use lib.ListN.{length, getD};
-ghost use Rattle.laws.specs.Find.{firstIndex};
-ghost use Rattle.index.specs.Keys.{foundOf};
-ghost use Rattle.record.specs.Table.{limit};
+ghost use Rattle.index.specs.Tally.{noTally};
+ghost use Rattle.index.specs.Way.{Ready};
+ghost use Rattle.record.specs.Table.{limit, fieldsOf, fileOf};
 ghost use Rattle.record.specs.Files.{filesOf, deliveryOf};
+ghost use Rattle.record.specs.machinery.Columns.{Fills, AllFew};
 ghost use Rattle.record.specs.Says.{tableOf};
-ghost use Rattle.record.specs.Names.{keyOf};
-ghost use Rattle.keys.specs.Rules.{breaks30, breaks40, breaks41, keyTests, keyReasons, refersToCatalogue, firstWith, keysIn, keysFinding};
+ghost use Rattle.record.specs.Names.{nameAt, keyOf};
+ghost use Rattle.keys.specs.Rules.{keyTests, keyReasons, refersToCatalogue, firstWith, keysIn, keysFinding};
 ghost use Rattle.keys.specs.Groups.{atFile};
-ghost use Rattle.keys.specs.machinery.Cells.{betterOf};
-ghost use Rattle.keys.specs.machinery.Marks.{MarkedWhere, isFree};
-
-// The least record of some cells and its cell, where one is found.
-pub struct Best {
-    pub found: bool,
-    pub at: usize,
-    pub cell: usize,
-}
-
-// Of two answers the one with the lower record, and of equals the first.
-pub fn better(best: Best, found: Found, cell: usize) -> Best
-    ensures { λ r. ⌜ r ≡ betterOf best found cell ⌝ }
-{
-    match found {
-        Found::Nothing => best,
-        Found::At(i) => {
-            if best.found & (best.at <= i) {
-                best
-            } else {
-                Best {
-                    found: true,
-                    at: i,
-                    cell,
-                }
-            }
-        }
-    }
-}
-
-// 30, at the key's last field.
-fn first_30<'a>(k: Kind, f: usize, files: [&'a [u8]; FILES]) -> Found
-    ensures { λ r. ⌜ r ≡ foundOf (firstIndex (λ i. breaks30 (deliveryOf (filesOf (map now (files .entry)))) k i f) (deliveryOf (filesOf (map now (files .entry))) k .count)) ⌝ }
-{
-    if f == k.keys() {
-        first_repeat(file_of(files, k), k)
-    } else {
-        Found::Nothing
-    }
-}
-
-// The same of 30: marks of the records that break it. False where the field isn't the key's last, and none can.
-fn mark_30<'a>(k: Kind, f: usize, files: [&'a [u8]; FILES], marks: &mut [u8]) -> bool
-    requires { ⌜ limit ≤ length (now marks) ⌝ }
-    ensures { λ r. ⌜ MarkedWhere r (now (marks .entry)) (now (marks .exit)) (λ i. breaks30 (deliveryOf (filesOf (map now (files .entry)))) k i f) (deliveryOf (filesOf (map now (files .entry))) k .count) ⌝ }
-{
-    if f == k.keys() {
-        mark_repeated(file_of(files, k), k, marks);
-        true
-    } else {
-        false
-    }
-}
-
-// 40, by what the field refers to. False where it is no reference.
-fn mark_40<'a>(k: Kind, f: usize, files: [&'a [u8]; FILES], marks: &mut [u8]) -> bool
-    requires { ⌜ limit ≤ length (now marks) ⌝ }
-    ensures { λ r. ⌜ MarkedWhere r (now (marks .entry)) (now (marks .exit)) (λ i. breaks40 (deliveryOf (filesOf (map now (files .entry)))) k i f) (deliveryOf (filesOf (map now (files .entry))) k .count) ⌝ }
-{
-    let own = file_of(files, k);
-    match k.target(f) {
-        Target::Free => false,
-        Target::Nowhere => {
-            mark_present(own, k, f, marks);
-            true
-        }
-        Target::To(other, g) => {
-            let to = file_of(files, other);
-            mark_dangling(own, k, f, to, other, g, marks);
-            true
-        }
-    }
-}
+ghost use Rattle.keys.specs.machinery.Cells.{TalliedTo, keyTally, tallyAt, keyTallies};
+ghost use Rattle.keys.specs.machinery.Lent.{Lent, Catalogued, AtHand};
 
 fn refers_to_catalogue(t: Target) -> bool
     ensures { λ r. ⌜ r ≡ refersToCatalogue t ⌝ }
@@ -118,92 +56,380 @@ fn refers_to_catalogue(t: Target) -> bool
     }
 }
 
-// 41, of a code. False where the field is none.
-fn mark_41<'a>(k: Kind, f: usize, files: [&'a [u8]; FILES], marks: &mut [u8]) -> bool
-    requires { ⌜ limit ≤ length (now marks) ⌝ }
-    ensures { λ r. ⌜ MarkedWhere r (now (marks .entry)) (now (marks .exit)) (λ i. breaks41 (deliveryOf (filesOf (map now (files .entry)))) k i f) (deliveryOf (filesOf (map now (files .entry))) k .count) ⌝ }
-{
-    if refers_to_catalogue(k.target(f)) {
-        let own = file_of(files, k);
-        let catalogo = file_of(files, Kind::Catalogo);
-        mark_mistyped(own, k, f, catalogo, k.letter(), marks);
-        true
-    } else {
-        false
-    }
-}
-
-// Marks of the records of file k that break the reason 10 t + u at field f. False where the file hasn't the rule there, and none can.
-fn mark_in<'a>(
-    t: usize,
+// 40 and 41 at field f of file k: ten cells more, by what the field refers to.
+fn tally_field<'a, 'b>(
+    t: Tally,
     k: Kind,
     f: usize,
-    u: usize,
     files: [&'a [u8]; FILES],
+    codes: &'b [u64],
+    code_order: &'b [usize],
+    code_hints: &'b [u16],
+    way: Way,
+    n: usize,
+    refs: &mut [u64],
+    names: &mut [u64],
+    hints: &mut [u16],
+    order: &mut [usize],
+    types: &mut [u8],
     marks: &mut [u8],
-) -> bool
-    requires { ⌜ limit ≤ length (now marks) ⌝ }
-    ensures { λ r. ⌜ MarkedWhere r (now (marks .entry)) (now (marks .exit)) (λ i. getD (keyTests t (deliveryOf (filesOf (map now (files .entry)))) k i f) u false) (deliveryOf (filesOf (map now (files .entry))) k .count) ⌝ }
+) -> Tally
+    requires { ⌜ (f ≤ fieldsOf k) × TalliedTo (keyTests 4 (deliveryOf (filesOf (map now files))) k) (deliveryOf (filesOf (map now files)) k .count) (f * 10) t × Catalogued (deliveryOf (filesOf (map now files))) (now codes) (now «code_order») (now «code_hints») way n × Lent (deliveryOf (filesOf (map now files))) (now refs) (now names) (now order) (now types) (now marks) ⌝ }
+    ensures { λ r. ⌜ TalliedTo (keyTests 4 (deliveryOf (filesOf (map now (files .entry)))) k) (deliveryOf (filesOf (map now (files .entry))) k .count) (f * 10 + 10) r ⌝ }
 {
-    if t == 3 {
-        if u == 0 {
-            return mark_30(k, f, files, marks);
-        }
-        return false;
+    let own = file_of(files, k);
+    let target = k.target(f);
+    if refers_to_catalogue(target) {
+        let cat = file_of(files, Kind::Catalogo);
+        let wanted = k.letter();
+        return tally_codes(
+            t,
+            own,
+            k,
+            f,
+            cat,
+            codes,
+            code_order,
+            code_hints,
+            way,
+            n,
+            wanted,
+            f * 10,
+            refs,
+            types,
+            marks,
+        );
     }
-    if t == 4 {
-        if u == 0 {
-            return mark_40(k, f, files, marks);
-        }
-        if u == 1 {
-            return mark_41(k, f, files, marks);
+    match target {
+        Target::Free => t,
+        Target::Nowhere => tally_present(t, own, k, f, f * 10, marks),
+        Target::To(other, g) => {
+            let to = file_of(files, other);
+            tally_dangling(
+                t,
+                own,
+                k,
+                f,
+                to,
+                other,
+                g,
+                f * 10,
+                refs,
+                names,
+                hints,
+                order,
+                marks,
+            )
         }
     }
-    false
 }
 
-// The first record that is marked, for the reason 10 t + u at field f of file k.
-fn first_by_marks<'a>(t: usize, k: Kind, f: usize, u: usize, files: [&'a [u8]; FILES]) -> Found
-    ensures { λ r. ⌜ r ≡ foundOf (firstIndex (λ i. getD (keyTests t (deliveryOf (filesOf (map now (files .entry)))) k i f) u false) (deliveryOf (filesOf (map now (files .entry))) k .count)) ⌝ }
+// The tally of 40 and 41 in file k.
+fn tally_fields<'a, 'b>(
+    k: Kind,
+    files: [&'a [u8]; FILES],
+    codes: &'b [u64],
+    code_order: &'b [usize],
+    code_hints: &'b [u16],
+    way: Way,
+    n: usize,
+    refs: &mut [u64],
+    names: &mut [u64],
+    hints: &mut [u16],
+    order: &mut [usize],
+    types: &mut [u8],
+    marks: &mut [u8],
+) -> Tally
+    requires { ⌜ Catalogued (deliveryOf (filesOf (map now files))) (now codes) (now «code_order») (now «code_hints») way n × Lent (deliveryOf (filesOf (map now files))) (now refs) (now names) (now order) (now types) (now marks) ⌝ }
+    ensures { λ r. ⌜ r ≡ keyTally 4 (deliveryOf (filesOf (map now (files .entry)))) k ⌝ }
 {
-    let n = rows(file_of(files, k), k);
+    let end = k.fields();
+    let mut t = no_tally();
+    let mut f = 0;
+    while f <= end {
+        t = tally_field(
+            t,
+            k,
+            f,
+            files,
+            codes,
+            code_order,
+            code_hints,
+            way,
+            n,
+            refs,
+            names,
+            hints,
+            order,
+            types,
+            marks,
+        );
+        f += 1;
+    }
+    t
+}
+
+// The tally of the ten t in file k.
+fn tally_file<'a, 'b>(
+    t: usize,
+    k: Kind,
+    files: [&'a [u8]; FILES],
+    codes: &'b [u64],
+    code_order: &'b [usize],
+    code_hints: &'b [u16],
+    way: Way,
+    n: usize,
+    refs: &mut [u64],
+    names: &mut [u64],
+    hints: &mut [u16],
+    order: &mut [usize],
+    types: &mut [u8],
+    marks: &mut [u8],
+) -> Tally
+    requires { ⌜ AtHand t (deliveryOf (filesOf (map now files))) (now codes) (now «code_order») (now «code_hints») way n × Lent (deliveryOf (filesOf (map now files))) (now refs) (now names) (now order) (now types) (now marks) ⌝ }
+    ensures { λ r. ⌜ r ≡ keyTally t (deliveryOf (filesOf (map now (files .entry)))) k ⌝ }
+{
+    if t == 3 {
+        return tally_repeats(file_of(files, k), k, refs, hints, order, marks);
+    }
+    if t == 4 {
+        return tally_fields(
+            k,
+            files,
+            codes,
+            code_order,
+            code_hints,
+            way,
+            n,
+            refs,
+            names,
+            hints,
+            order,
+            types,
+            marks,
+        );
+    }
+    no_tally()
+}
+
+// What a file number's kind gives, and nothing where there is none.
+fn tally_which<'a, 'b>(
+    t: usize,
+    which: Which,
+    files: [&'a [u8]; FILES],
+    codes: &'b [u64],
+    code_order: &'b [usize],
+    code_hints: &'b [u16],
+    way: Way,
+    n: usize,
+    refs: &mut [u64],
+    names: &mut [u64],
+    hints: &mut [u16],
+    order: &mut [usize],
+    types: &mut [u8],
+    marks: &mut [u8],
+) -> Tally
+    requires { ⌜ AtHand t (deliveryOf (filesOf (map now files))) (now codes) (now «code_order») (now «code_hints») way n × Lent (deliveryOf (filesOf (map now files))) (now refs) (now names) (now order) (now types) (now marks) ⌝ }
+    ensures { λ r. ⌜ r ≡ tallyAt (keyTally t (deliveryOf (filesOf (map now (files .entry))))) which ⌝ }
+{
+    match which {
+        Which::NoFile => no_tally(),
+        Which::File(k) => tally_file(
+            t,
+            k,
+            files,
+            codes,
+            code_order,
+            code_hints,
+            way,
+            n,
+            refs,
+            names,
+            hints,
+            order,
+            types,
+            marks,
+        ),
+    }
+}
+
+// The tallies of the ten t in each file.
+fn tally_files<'a, 'b>(
+    t: usize,
+    files: [&'a [u8]; FILES],
+    codes: &'b [u64],
+    code_order: &'b [usize],
+    code_hints: &'b [u16],
+    way: Way,
+    n: usize,
+    refs: &mut [u64],
+    names: &mut [u64],
+    hints: &mut [u16],
+    order: &mut [usize],
+    types: &mut [u8],
+    marks: &mut [u8],
+) -> [Tally; FILES]
+    requires { ⌜ AtHand t (deliveryOf (filesOf (map now files))) (now codes) (now «code_order») (now «code_hints») way n × Lent (deliveryOf (filesOf (map now files))) (now refs) (now names) (now order) (now types) (now marks) ⌝ }
+    ensures { λ r. ⌜ r ≡ keyTallies t (deliveryOf (filesOf (map now (files .entry)))) ⌝ }
+{
+    let none = no_tally();
+    let mut tallies = [none; FILES];
+    let mut i = 0;
+    while i < FILES {
+        tallies[i] = tally_which(
+            t,
+            kind_of(i + 1),
+            files,
+            codes,
+            code_order,
+            code_hints,
+            way,
+            n,
+            refs,
+            names,
+            hints,
+            order,
+            types,
+            marks,
+        );
+        i += 1;
+    }
+    tallies
+}
+
+// The catalogue's codes, read and prepared for the forties; no other ten looks one up.
+fn prepare_codes(
+    t: usize,
+    cat: &[u8],
+    codes: &mut [u64],
+    order: &mut [usize],
+    hints: &mut [u16],
+) -> Way
+    requires { ⌜ (tableOf (now cat) Kind.Catalogo .count ≤ length (now codes)) × (tableOf (now cat) Kind.Catalogo .count ≤ length (now order)) ⌝ }
+    ensures { λ r. ⌜ (t ≡ 4 → Fills (now (codes .exit)) (λ j. nameAt Kind.Catalogo (tableOf (now (cat .entry)) Kind.Catalogo) j 1) (tableOf (now (cat .entry)) Kind.Catalogo .count) (tableOf (now (cat .entry)) Kind.Catalogo .count)) ⌝ }
+    ensures ready { λ r. ⌜ (t ≡ 4 → Ready (now (codes .exit)) (now (order .exit)) (now (hints .exit)) (tableOf (now (cat .entry)) Kind.Catalogo .count) r) ⌝ }
+{
+    if t == 4 {
+        let n = fill_names(cat, Kind::Catalogo, 1, codes);
+        return prepare(codes, n, hints, order);
+    }
+    Way {
+        hinted: false,
+        apart: false,
+    }
+}
+
+// The tallies of the ten t in each file, with everything lent.
+fn tally_in<'a>(
+    t: usize,
+    files: [&'a [u8]; FILES],
+    codes: &mut [u64],
+    code_order: &mut [usize],
+    code_hints: &mut [u16],
+    refs: &mut [u64],
+    names: &mut [u64],
+    hints: &mut [u16],
+    order: &mut [usize],
+    types: &mut [u8],
+    marks: &mut [u8],
+) -> [Tally; FILES]
+    requires { ⌜ (deliveryOf (filesOf (map now files)) Kind.Catalogo .count ≤ length (now codes)) × (deliveryOf (filesOf (map now files)) Kind.Catalogo .count ≤ length (now «code_order»)) × Lent (deliveryOf (filesOf (map now files))) (now refs) (now names) (now order) (now types) (now marks) ⌝ }
+    ensures { λ r. ⌜ r ≡ keyTallies t (deliveryOf (filesOf (map now (files .entry)))) ⌝ }
+{
+    let cat = file_of(files, Kind::Catalogo);
+    let n = rows(cat, Kind::Catalogo);
+    let way = prepare_codes(t, cat, codes, code_order, code_hints);
+    tally_files(
+        t,
+        files,
+        codes,
+        code_order,
+        code_hints,
+        way,
+        n,
+        refs,
+        names,
+        hints,
+        order,
+        types,
+        marks,
+    )
+}
+
+// In short arrays, for a few records a file.
+fn with_few<'a>(t: usize, files: [&'a [u8]; FILES]) -> [Tally; FILES]
+    requires { ⌜ AllFew (deliveryOf (filesOf (map now files))) ⌝ }
+    ensures { λ r. ⌜ r ≡ keyTallies t (deliveryOf (filesOf (map now (files .entry)))) ⌝ }
+{
+    let mut codes = [0u64; FEW];
+    let mut code_order = [0usize; FEW];
+    let mut code_hints = [0u16; FEW_HINTS];
+    let mut refs = [0u64; FEW];
+    let mut names = [0u64; FEW];
+    let mut hints = [0u16; FEW_HINTS];
+    let mut order = [0usize; FEW];
+    let mut types = [0u8; FEW];
+    let mut marks = [0u8; FEW];
+    tally_in(
+        t,
+        files,
+        &mut codes,
+        &mut code_order,
+        &mut code_hints,
+        &mut refs,
+        &mut names,
+        &mut hints,
+        &mut order,
+        &mut types,
+        &mut marks,
+    )
+}
+
+// In arrays for as many records as a file may have.
+fn with_many<'a>(t: usize, files: [&'a [u8]; FILES]) -> [Tally; FILES]
+    ensures { λ r. ⌜ r ≡ keyTallies t (deliveryOf (filesOf (map now (files .entry)))) ⌝ }
+{
+    let mut codes = [0u64; LIMIT];
+    let mut code_order = [0usize; LIMIT];
+    let mut code_hints = [0u16; HINTS];
+    let mut refs = [0u64; LIMIT];
+    let mut names = [0u64; LIMIT];
+    let mut hints = [0u16; HINTS];
+    let mut order = [0usize; LIMIT];
+    let mut types = [0u8; LIMIT];
     let mut marks = [0u8; LIMIT];
-    if mark_in(t, k, f, u, files, &mut marks) {
-        first_marked(&marks, n)
+    tally_in(
+        t,
+        files,
+        &mut codes,
+        &mut code_order,
+        &mut code_hints,
+        &mut refs,
+        &mut names,
+        &mut hints,
+        &mut order,
+        &mut types,
+        &mut marks,
+    )
+}
+
+// The tallies of the ten t, 3 or 4, in each file of a delivery, by the files' numbers.
+pub fn tally_keys<'a>(t: usize, files: [&'a [u8]; FILES]) -> [Tally; FILES]
+    ensures { λ r. ⌜ r ≡ keyTallies t (deliveryOf (filesOf (map now (files .entry)))) ⌝ }
+{
+    if all_few(files) {
+        with_few(t, files)
     } else {
-        Found::Nothing
+        with_many(t, files)
     }
 }
 
-fn is_free(t: Target) -> bool
-    ensures { λ r. ⌜ r ≡ isFree t ⌝ }
+// The tally of a kind's file.
+pub fn tally_of(tallies: [Tally; FILES], k: Kind) -> Tally
+    ensures { λ r. ⌜ r ≡ getD tallies (fileOf k - 1) noTally ⌝ }
 {
-    match t {
-        Target::Free => true,
-        Target::Nowhere => false,
-        Target::To(_, _) => false,
-    }
-}
-
-// The first record of file k that breaks the reason 10 t + u at field f. Most fields are no references: no marks are made for them.
-fn first_in<'a>(t: usize, k: Kind, f: usize, u: usize, files: [&'a [u8]; FILES]) -> Found
-    ensures { λ r. ⌜ r ≡ foundOf (firstIndex (λ i. getD (keyTests t (deliveryOf (filesOf (map now (files .entry)))) k i f) u false) (deliveryOf (filesOf (map now (files .entry))) k .count)) ⌝ }
-{
-    if t == 3 {
-        if u == 0 {
-            return first_30(k, f, files);
-        }
-        return Found::Nothing;
-    }
-    if t == 4 {
-        if u < 2 {
-            if is_free(k.target(f)) {
-                return Found::Nothing;
-            }
-            return first_by_marks(t, k, f, u, files);
-        }
-    }
-    Found::Nothing
+    let n = k.number() - 1;
+    tallies[n]
 }
 
 // The first of n records whose key is x, counted from 0; 0 where there is none.
@@ -253,26 +479,15 @@ fn reason_in<'a>(
     Reason::LongFile10
 }
 
-// The first break of the ten t in file k.
-fn check_file<'a>(t: usize, k: Kind, files: [&'a [u8]; FILES]) -> Finding
+// The first break of the ten t in file k, by the file's tally.
+fn check_file<'a>(t: usize, k: Kind, tally: Tally, files: [&'a [u8]; FILES]) -> Finding
+    requires { ⌜ tally ≡ keyTally t (deliveryOf (filesOf (map now files))) k ⌝ }
     ensures { λ r. ⌜ r ≡ keysIn t (deliveryOf (filesOf (map now (files .entry)))) k ⌝ }
 {
-    let n = (k.fields() + 1) * 10;
-    let mut best = Best {
-        found: false,
-        at: 0,
-        cell: 0,
-    };
-    let mut c = 0;
-    while c < n {
-        let found = first_in(t, k, c / 10, c % 10, files);
-        best = better(best, found, c);
-        c += 1;
-    }
-    if best.found {
-        let i = best.at;
-        let f = best.cell / 10;
-        let u = best.cell % 10;
+    if tally.found {
+        let i = tally.at;
+        let f = tally.cell / 10;
+        let u = tally.cell % 10;
         let reason = reason_in(t, k, i, f, u, files);
         Finding::Broken(break_of(reason, k, i + 1, f))
     } else {
@@ -281,12 +496,18 @@ fn check_file<'a>(t: usize, k: Kind, files: [&'a [u8]; FILES]) -> Finding
 }
 
 // What a file number's kind gives, and nothing where there is none.
-fn check_which<'a>(t: usize, which: Which, files: [&'a [u8]; FILES]) -> Finding
+fn check_which<'a>(
+    t: usize,
+    which: Which,
+    tallies: [Tally; FILES],
+    files: [&'a [u8]; FILES],
+) -> Finding
+    requires { ⌜ tallies ≡ keyTallies t (deliveryOf (filesOf (map now files))) ⌝ }
     ensures { λ r. ⌜ r ≡ atFile (keysIn t (deliveryOf (filesOf (map now (files .entry))))) which ⌝ }
 {
     match which {
         Which::NoFile => Finding::Fine,
-        Which::File(k) => check_file(t, k, files),
+        Which::File(k) => check_file(t, k, tally_of(tallies, k), files),
     }
 }
 
@@ -294,9 +515,10 @@ fn check_which<'a>(t: usize, which: Which, files: [&'a [u8]; FILES]) -> Finding
 pub fn check_keys<'a>(t: usize, files: [&'a [u8]; FILES]) -> Finding
     ensures { λ r. ⌜ r ≡ keysFinding t (deliveryOf (filesOf (map now (files .entry)))) ⌝ }
 {
+    let tallies = tally_keys(t, files);
     let mut n = 0;
     while n <= FILES {
-        let v = check_which(t, kind_of(n), files);
+        let v = check_which(t, kind_of(n), tallies, files);
         if v.is_fine() {
             n += 1;
         } else {

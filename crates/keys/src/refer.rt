@@ -1,11 +1,13 @@
-// Reasons 40 and 41: marks of the records of a file with a reference that names no record, or a code of another type.
+// Reasons 40 and 41: the records of a file with a reference that names no record, or a code of another type. Each function adds a cell or
+// two to the file's tally.
 //
 // Why marks and not a search for the first: a delivery may be broken at every record, and what is told of it goes by each of them. One
 // pass over a column fills them, and each look-up is exact (index::way), so no pass goes over the other file's records.
 use index::Found;
-use index::HINTS;
 use index::marks::as_mark;
 use index::marks::clear;
+use index::tally::Tally;
+use index::tally::with_marks;
 use index::way::Way;
 use index::way::is_there;
 use index::way::look;
@@ -14,7 +16,6 @@ use record::columns::letter;
 use record::columns::rows;
 use record::fill::fill_names;
 use record::kind::Kind;
-use record::kind::LIMIT;
 use record::names::name;
 ghost use mathlib.Core.Path.{_≡_};
 ghost use mathlib.Core.Bool.{not};
@@ -30,26 +31,12 @@ ghost use Rattle.record.specs.Says.{tableOf, letterIn};
 ghost use Rattle.record.specs.Names.{nameAt};
 ghost use Rattle.keys.specs.Rules.{dangles, mistyped};
 ghost use Rattle.record.specs.machinery.Columns.{Fills};
+ghost use Rattle.keys.specs.machinery.Cells.{OneMore, TwoMore};
 ghost use Rattle.keys.specs.machinery.Types.{Types};
 
-// The first record whose field is there at all.
-pub fn first_present(s: &[u8], k: Kind, f: usize) -> Found
-    ensures { λ r. ⌜ r ≡ foundOf (firstIndex (λ i. not (eqb (nameAt k (tableOf (now (s .entry)) k) i f) 0)) (tableOf (now (s .entry)) k .count)) ⌝ }
-{
-    let n = rows(s, k);
-    let mut i = 0;
-    while i < n {
-        if name(s, k, i, f) != 0 {
-            return Found::At(i);
-        }
-        i += 1;
-    }
-    Found::Nothing
-}
-
 // The records whose field is there at all.
-pub(crate) fn mark_present(s: &[u8], k: Kind, f: usize, marks: &mut [u8])
-    requires { ⌜ limit ≤ length (now marks) ⌝ }
+fn mark_present(s: &[u8], k: Kind, f: usize, marks: &mut [u8])
+    requires { ⌜ tableOf (now s) k .count ≤ length (now marks) ⌝ }
     ensures { λ _. ⌜ Marked (now (marks .entry)) (now (marks .exit)) (λ i. not (eqb (nameAt k (tableOf (now (s .entry)) k) i f) 0)) (tableOf (now (s .entry)) k .count) ⌝ }
 {
     let n = rows(s, k);
@@ -58,6 +45,23 @@ pub(crate) fn mark_present(s: &[u8], k: Kind, f: usize, marks: &mut [u8])
         marks[i] = as_mark(name(s, k, i, f) != 0);
         i += 1;
     }
+}
+
+// One cell more: those records.
+pub(crate) fn tally_present(
+    t: Tally,
+    s: &[u8],
+    k: Kind,
+    f: usize,
+    cell: usize,
+    marks: &mut [u8],
+) -> Tally
+    requires { ⌜ (t .many ≤ 4294967296) × (tableOf (now s) k .count ≤ length (now marks)) ⌝ }
+    ensures { λ r. ⌜ OneMore t (λ i. not (eqb (nameAt k (tableOf (now (s .entry)) k) i f) 0)) (tableOf (now (s .entry)) k .count) cell r ⌝ }
+{
+    let n = rows(s, k);
+    mark_present(s, k, f, marks);
+    with_marks(t, marks, n, cell)
 }
 
 // Whether a name isn't missing and is none of n keys.
@@ -99,36 +103,58 @@ fn mark_unknown<'a>(
     }
 }
 
-// The records of s whose field f names no record of to by its field g.
-pub(crate) fn mark_dangling<'a>(
+// One cell more: those names.
+fn tally_unknown<'a>(
+    t: Tally,
+    refs: &'a [u64],
+    m: usize,
+    keys: &'a [u64],
+    order: &'a [usize],
+    hints: &'a [u16],
+    way: Way,
+    n: usize,
+    cell: usize,
+    marks: &mut [u8],
+) -> Tally
+    requires { ⌜ (t .many ≤ 4294967296) × (m ≤ limit) × (m ≤ length (now refs)) × (m ≤ length (now marks)) × Ready (now keys) (now order) (now hints) n way ⌝ }
+    ensures { λ r. ⌜ OneMore t (λ i. dangles (λ j. getD (now (keys .entry)) j 0) n (getD (now (refs .entry)) i 0)) m cell r ⌝ }
+{
+    mark_unknown(refs, m, keys, order, hints, way, n, marks);
+    with_marks(t, marks, m, cell)
+}
+
+// One cell more: the records of s whose field f names no record of `to` by its field g.
+pub(crate) fn tally_dangling<'a>(
+    t: Tally,
     s: &'a [u8],
     k: Kind,
     f: usize,
     to: &'a [u8],
     other: Kind,
     g: usize,
+    cell: usize,
+    refs: &mut [u64],
+    names: &mut [u64],
+    hints: &mut [u16],
+    order: &mut [usize],
     marks: &mut [u8],
-)
-    requires { ⌜ limit ≤ length (now marks) ⌝ }
-    ensures { λ _. ⌜ Marked (now (marks .entry)) (now (marks .exit)) (λ i. dangles (λ j. nameAt other (tableOf (now («to» .entry)) other) j g) (tableOf (now («to» .entry)) other .count) (nameAt k (tableOf (now (s .entry)) k) i f)) (tableOf (now (s .entry)) k .count) ⌝ }
+) -> Tally
+    requires { ⌜ (t .many ≤ 4294967296) × (tableOf (now s) k .count ≤ length (now refs)) × (tableOf (now s) k .count ≤ length (now marks)) × (tableOf (now «to») other .count ≤ length (now names)) × (tableOf (now «to») other .count ≤ length (now order)) ⌝ }
+    ensures { λ r. ⌜ OneMore t (λ i. dangles (λ j. nameAt other (tableOf (now («to» .entry)) other) j g) (tableOf (now («to» .entry)) other .count) (nameAt k (tableOf (now (s .entry)) k) i f)) (tableOf (now (s .entry)) k .count) cell r ⌝ }
 {
-    let mut refs = [0u64; LIMIT];
-    let m = fill_names(s, k, f, &mut refs);
-    let mut keys = [0u64; LIMIT];
-    let n = fill_names(to, other, g, &mut keys);
-    let mut hints = [0u16; HINTS];
-    let mut order = [0usize; LIMIT];
-    let way = prepare(&keys, n, &mut hints, &mut order);
-    mark_unknown(&refs, m, &keys, &order, &hints, way, n, marks);
+    let m = fill_names(s, k, f, refs);
+    let n = fill_names(to, other, g, names);
+    let way = prepare(names, n, hints, order);
+    tally_unknown(t, refs, m, names, order, hints, way, n, cell, marks)
 }
 
 // Marks, of each code that is catalogued under the type, the record that a look-up of it finds. It is the same for equal codes, and so
 // tells of all its records. Where no two codes are equal the record's own letter tells, and no marks are made.
-fn mark_types<'a>(
+fn mark_types<'a, 'b>(
     cat: &'a [u8],
-    keys: &'a [u64],
-    order: &'a [usize],
-    hints: &'a [u16],
+    keys: &'b [u64],
+    order: &'b [usize],
+    hints: &'b [u16],
     way: Way,
     n: usize,
     wanted: u8,
@@ -155,14 +181,14 @@ fn mark_types<'a>(
 
 // Whether the code is catalogued, and under no record of the type. The record that is found decides where its letter is the type's, and
 // where no two codes are equal, since it is the only one then; else its mark does.
-fn is_mistyped<'a>(
+fn is_mistyped<'a, 'b>(
     cat: &'a [u8],
-    keys: &'a [u64],
-    order: &'a [usize],
-    hints: &'a [u16],
+    keys: &'b [u64],
+    order: &'b [usize],
+    hints: &'b [u16],
     way: Way,
     n: usize,
-    types: &'a [u8],
+    types: &'b [u8],
     x: u64,
     wanted: u8,
 ) -> bool
@@ -185,16 +211,16 @@ fn is_mistyped<'a>(
 }
 
 // Of m codes those that are mistyped.
-fn mark_mistyped_in<'a>(
-    refs: &'a [u64],
+fn mark_mistyped_in<'a, 'b>(
+    refs: &'b [u64],
     m: usize,
     cat: &'a [u8],
-    keys: &'a [u64],
-    order: &'a [usize],
-    hints: &'a [u16],
+    keys: &'b [u64],
+    order: &'b [usize],
+    hints: &'b [u16],
     way: Way,
     n: usize,
-    types: &'a [u8],
+    types: &'b [u8],
     wanted: u8,
     marks: &mut [u8],
 )
@@ -208,38 +234,94 @@ fn mark_mistyped_in<'a>(
     }
 }
 
-// The records of s whose code is catalogued under another type.
-pub(crate) fn mark_mistyped<'a>(
+// One cell more: of m codes those that are mistyped.
+fn tally_mistyped<'a, 'b>(
+    t: Tally,
+    refs: &'b [u64],
+    m: usize,
+    cat: &'a [u8],
+    codes: &'b [u64],
+    order: &'b [usize],
+    hints: &'b [u16],
+    way: Way,
+    n: usize,
+    wanted: u8,
+    cell: usize,
+    types: &mut [u8],
+    marks: &mut [u8],
+) -> Tally
+    requires { ⌜ (t .many ≤ 4294967296) × (m ≤ limit) × (m ≤ length (now refs)) × (m ≤ length (now marks)) × (n ≤ length (now types)) × Ready (now codes) (now order) (now hints) n way × Fills (now codes) (λ j. nameAt Kind.Catalogo (tableOf (now cat) Kind.Catalogo) j 1) (tableOf (now cat) Kind.Catalogo .count) n ⌝ }
+    ensures { λ r. ⌜ OneMore t (λ i. mistyped wanted (tableOf (now (cat .entry)) Kind.Catalogo) (getD (now (refs .entry)) i 0)) m cell r ⌝ }
+{
+    mark_types(cat, codes, order, hints, way, n, wanted, types);
+    mark_mistyped_in(
+        refs,
+        m,
+        cat,
+        codes,
+        order,
+        hints,
+        way,
+        n,
+        types,
+        wanted,
+        marks,
+    );
+    with_marks(t, marks, m, cell)
+}
+
+// Two cells more: the records of s whose code, in field f, isn't catalogued, and those whose code is catalogued under another type. The
+// catalogue's n codes are in hand; the file's own are read once for both.
+pub(crate) fn tally_codes<'a, 'b>(
+    t: Tally,
     s: &'a [u8],
     k: Kind,
     f: usize,
     cat: &'a [u8],
+    codes: &'b [u64],
+    order: &'b [usize],
+    hints: &'b [u16],
+    way: Way,
+    n: usize,
     wanted: u8,
+    cell: usize,
+    refs: &mut [u64],
+    types: &mut [u8],
     marks: &mut [u8],
-)
-    requires { ⌜ limit ≤ length (now marks) ⌝ }
-    ensures { λ _. ⌜ Marked (now (marks .entry)) (now (marks .exit)) (λ i. mistyped wanted (tableOf (now (cat .entry)) Kind.Catalogo) (nameAt k (tableOf (now (s .entry)) k) i f)) (tableOf (now (s .entry)) k .count) ⌝ }
+) -> Tally
+    requires { ⌜ (t .many ≤ 4294950912) × (cell ≤ 1000) × (tableOf (now s) k .count ≤ length (now refs)) × (tableOf (now s) k .count ≤ length (now marks)) × (n ≤ length (now types)) × Ready (now codes) (now order) (now hints) n way × Fills (now codes) (λ j. nameAt Kind.Catalogo (tableOf (now cat) Kind.Catalogo) j 1) (tableOf (now cat) Kind.Catalogo .count) n ⌝ }
+    ensures { λ r. ⌜ TwoMore t (λ i. dangles (λ j. nameAt Kind.Catalogo (tableOf (now (cat .entry)) Kind.Catalogo) j 1) (tableOf (now (cat .entry)) Kind.Catalogo .count) (nameAt k (tableOf (now (s .entry)) k) i f)) (λ i. mistyped wanted (tableOf (now (cat .entry)) Kind.Catalogo) (nameAt k (tableOf (now (s .entry)) k) i f)) (tableOf (now (s .entry)) k .count) cell r ⌝ }
 {
-    let mut refs = [0u64; LIMIT];
-    let m = fill_names(s, k, f, &mut refs);
-    let mut keys = [0u64; LIMIT];
-    let n = fill_names(cat, Kind::Catalogo, 1, &mut keys);
-    let mut hints = [0u16; HINTS];
-    let mut order = [0usize; LIMIT];
-    let way = prepare(&keys, n, &mut hints, &mut order);
-    let mut types = [0u8; LIMIT];
-    mark_types(cat, &keys, &order, &hints, way, n, wanted, &mut types);
-    mark_mistyped_in(
-        &refs,
+    let m = fill_names(s, k, f, refs);
+    let known = tally_unknown(t, refs, m, codes, order, hints, way, n, cell, marks);
+    tally_mistyped(
+        known,
+        refs,
         m,
         cat,
-        &keys,
-        &order,
-        &hints,
+        codes,
+        order,
+        hints,
         way,
         n,
-        &types,
         wanted,
+        cell + 1,
+        types,
         marks,
-    );
+    )
+}
+
+// The first record whose field is there at all.
+pub fn first_present(s: &[u8], k: Kind, f: usize) -> Found
+    ensures { λ r. ⌜ r ≡ foundOf (firstIndex (λ i. not (eqb (nameAt k (tableOf (now (s .entry)) k) i f) 0)) (tableOf (now (s .entry)) k .count)) ⌝ }
+{
+    let n = rows(s, k);
+    let mut i = 0;
+    while i < n {
+        if name(s, k, i, f) != 0 {
+            return Found::At(i);
+        }
+        i += 1;
+    }
+    Found::Nothing
 }

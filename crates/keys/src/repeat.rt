@@ -1,39 +1,35 @@
-// Reason 30: the records of a file whose key is an earlier record's, and the first of them.
-use index::Found;
-use index::HINTS;
+// Reason 30: the records of a file whose key is an earlier record's: the first of them, and how many there are.
 use index::numbers::mark_repeats;
-use index::twice::duplicate;
+use index::tally::Tally;
+use index::tally::count_marked;
+use index::tally::no_tally;
+use index::tally::with_cell;
+use index::twice::repeat_in;
 use index::way::prepare;
 use record::fill::fill_keys;
 use record::kind::Kind;
-use record::kind::LIMIT;
 ghost use mathlib.Core.Path.{_≡_};
 ghost use Prim.Native.Nat.{ℕ, _≤_};
 ghost use lib.ListN.{length};
-ghost use Rattle.laws.specs.Find.{firstIndex};
-ghost use Rattle.index.specs.Keys.{foundOf};
-ghost use Rattle.index.specs.Marks.{Marked};
-ghost use Rattle.record.specs.Table.{limit};
 ghost use Rattle.record.specs.Says.{tableOf};
-ghost use Rattle.record.specs.Names.{keyOf};
-ghost use Rattle.keys.specs.Rules.{repeats};
+ghost use Rattle.keys.specs.machinery.Cells.{tallyIn, repeatTests};
 
-pub fn first_repeat(s: &[u8], k: Kind) -> Found
-    ensures { λ r. ⌜ r ≡ foundOf (firstIndex (λ i. repeats (keyOf k (tableOf (now (s .entry)) k)) i) (tableOf (now (s .entry)) k .count)) ⌝ }
+// The tally of 30, which is told at the key's last field. The nested scan finds the first record, and visits only those that are marked.
+pub(crate) fn tally_repeats(
+    s: &[u8],
+    k: Kind,
+    keys: &mut [u64],
+    hints: &mut [u16],
+    order: &mut [usize],
+    marks: &mut [u8],
+) -> Tally
+    requires { ⌜ (tableOf (now s) k .count ≤ length (now keys)) × (tableOf (now s) k .count ≤ length (now order)) × (tableOf (now s) k .count ≤ length (now marks)) ⌝ }
+    ensures { λ r. ⌜ r ≡ tallyIn (repeatTests k (tableOf (now (s .entry)) k)) k (tableOf (now (s .entry)) k .count) ⌝ }
 {
-    let mut keys = [0u64; LIMIT];
-    let n = fill_keys(s, k, &mut keys);
-    duplicate(&keys, n)
-}
-
-pub(crate) fn mark_repeated(s: &[u8], k: Kind, marks: &mut [u8])
-    requires { ⌜ limit ≤ length (now marks) ⌝ }
-    ensures { λ _. ⌜ Marked (now (marks .entry)) (now (marks .exit)) (λ i. repeats (keyOf k (tableOf (now (s .entry)) k)) i) (tableOf (now (s .entry)) k .count) ⌝ }
-{
-    let mut keys = [0u64; LIMIT];
-    let n = fill_keys(s, k, &mut keys);
-    let mut hints = [0u16; HINTS];
-    let mut order = [0usize; LIMIT];
-    let way = prepare(&keys, n, &mut hints, &mut order);
-    mark_repeats(&keys, &order, &hints, way, n, marks);
+    let n = fill_keys(s, k, keys);
+    let way = prepare(keys, n, hints, order);
+    mark_repeats(keys, order, hints, way, n, marks);
+    let found = repeat_in(keys, marks, n);
+    let many = count_marked(marks, n);
+    with_cell(no_tally(), found, many, k.keys() * 10)
 }

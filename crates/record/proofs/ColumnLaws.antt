@@ -69,10 +69,10 @@ read-none column before small l e =
       rest = λ j lj. refl;
     }
 
-pub read-fills : {before out : List ℕ} {column : ℕ → ℕ} {n r : ℕ} → length before ≡ limit → ReadInto before out column n r → Fills out column n r
+pub read-fills : {before out : List ℕ} {column : ℕ → ℕ} {n r : ℕ} → n ≤ length before → ReadInto before out column n r → Fills out column n r
 read-fills l f =
-    let e = f .fits (omega (arith, f .small, l)) in
-    record { count = e; small = f .small; long = f .long ∙ l; holds = λ i li. f .holds i (omega (arith, e)) }
+    let e = f .fits l in
+    record { count = e; small = f .small; long = omega (arith, f .long); holds = λ i li. f .holds i (omega (arith, e)) }
 
 -- WHERE RECORD i STARTS, and that it is near enough for sums to fit
 pub record Starts (k : Kind) (i at : ℕ) : Type 0 where

@@ -24,6 +24,9 @@ pub const FILES: usize = 7;
 // At most so many records a file.
 pub const LIMIT: usize = 16384;
 
+// Where no file has more records than this, short arrays do.
+pub const FEW: usize = 512;
+
 // Of all rows: the bytes of the longest record, the fields of the record with most, the bytes of the widest field.
 pub const LONGEST: usize = 149;
 

@@ -25,66 +25,24 @@ use Rattle.record.specs.Table.{colAt, formAt, isN}
 use Rattle.record.specs.Says.{Table}
 use Rattle.record.specs.machinery.Columns.{Fills}
 use Rattle.record.specs.Names.{nameAt, keyOf}
-use Rattle.keys.proofs.ReferLaws.{names-column}
-use Rattle.topology.proofs.PlaceLaws.{named-apart}
+use Rattle.topology.proofs.LentLaws.{names-lent, lent-apart}
 use Rattle.topology.specs.declared.ends.End.{End}
 use Rattle.topology.specs.declared.ends.End.the-variants.{Start, Last}
 use Rattle.topology.specs.machinery.Ends.{nodeField, endKey, apart}
 use Rattle.topology.specs.Rules.{xAt, yAt, nodeIn, highestIn, meets, elsewhere, startElsewhere, endElsewhere, pointElsewhere}
 
-here-or : (n : ℕ) {k : ℕ} → k < suc n → (k ≡ n) ⊎ (k < n)
-here-or n l = eq-or-lt-of-le (le-of-suc-le-suc l)
-
--- THE HIGHEST of a line: no key of the line is greater, and it is no greater than what is no less than each of them
-module _ (key : ℕ → ℕ) (line : ℕ) where
-  highest-most : (n m : ℕ) → ((k : ℕ) → k < n → keyLine (key k) ≡ line → key k ≤ m) → highestIn key line n ≤ m
-  unfolding highestIn
-  highest-most zero m all = omega arith
-  highest-most (suc n) m all =
-      let rest = highest-most n m (λ k l. all k (omega arith)) in
-      picked (λ h. h ≤ m) (eqb (keyLine (key n)) line) _ _ (λ e. max-le (all n (omega arith) (eqb-true _ _ e)) rest) (λ e. rest)
-
-  highest-least : (n : ℕ) {k : ℕ} → k < n → keyLine (key k) ≡ line → key k ≤ highestIn key line n
-  unfolding highestIn
-  highest-least zero l e = absurd (omega arith)
-  highest-least (suc n) {k} l e =
-      picked (λ h. key k ≤ h) (eqb (keyLine (key n)) line) (max (key n) (highestIn key line n)) (highestIn key line n)
-      (λ t. ⊎-elim (λ q. rw q (le-max-left _ _)) (λ u. le-trans (highest-least n u e) (le-max-right _ _)) (here-or n l))
-      (λ t. ⊎-elim (λ q. absurd (eqb-false (keyLine (key n)) line t (rw (← q) e))) (λ u. highest-least n u e) (here-or n l))
-
--- it is what the index finds
-module _ (keys : List ℕ) (n line : ℕ) {f : Found} (h : HighestIn keys n line f) where
-  pub highest-below : {j : ℕ} → f ≡ At j → j < n
-  unfolding HighestIn
-  highest-below e = subst (λ (f : Found). HighestIn keys n line f) e h .0
-
-  pub highest-none : f ≡ Nothing → 0 ≡ highestIn (listed keys) line n
-  unfolding HighestIn
-  highest-none e =
-      let none = subst (λ (f : Found). HighestIn keys n line f) e h in
-      let low = highest-most (listed keys) line n 0 (λ k l t. absurd (none k l t)) in
-      omega arith
-
-  pub highest-found : {j : ℕ} → f ≡ At j → getD keys j 0 ≡ highestIn (listed keys) line n
-  unfolding HighestIn
-  highest-found e =
-      let at = subst (λ (f : Found). HighestIn keys n line f) e h in
-      let low = highest-most (listed keys) line n _ (at .2) in
-      let high = highest-least (listed keys) line n (at .0) (at .1) in
-      omega arith
-
 -- THE ARRAY of the keys as the column
-module _ {l : List ℕ} {key : ℕ → ℕ} {m n : ℕ} (fills : Fills l key m n) where
+module _ {l : List ℕ} {key : ℕ → ℕ} {m n : ℕ} (lent : Fills l key m n) where
   highest-same : (line i : ℕ) → i ≤ m → highestIn (listed l) line i ≡ highestIn key line i
   unfolding highestIn
   highest-same line zero u = refl
-  highest-same line (suc i) u = rw (fills .holds i (omega arith), highest-same line i (omega arith))
+  highest-same line (suc i) u = rw (lent .holds i (omega arith), highest-same line i (omega arith))
 
-  pub highest-column : (line : ℕ) → highestIn (listed l) line n ≡ highestIn key line m
-  highest-column line = rw (fills .count) (highest-same line m (omega arith))
+  pub highest-lent : (line : ℕ) → highestIn (listed l) line n ≡ highestIn key line m
+  highest-lent line = rw (lent .count) (highest-same line m (omega arith))
 
-  pub endless-column : (line : ℕ) → eqb (highestIn (listed l) line n) 0 ≡ eqb (highestIn key line m) 0
-  endless-column line = ap (λ (x : ℕ). eqb x 0) (highest-column line)
+  pub endless-lent : (line : ℕ) → eqb (highestIn (listed l) line n) 0 ≡ eqb (highestIn key line m) 0
+  endless-lent line = ap (λ (x : ℕ). eqb x 0) (highest-lent line)
 
 -- a line without a highest vertex, from what the code reads
 pub endless-said :
@@ -116,20 +74,20 @@ module _ (vertices nodes : Table) (key name : ℕ) where
     meets-key h p q s = rw (← e, eq-eqb _ _ h, ← p, ← q, s)
 
   -- ELSEWHERE, where f is what a look-up of the vertex says
-  module _ {keys : List ℕ} {n : ℕ} (fills : Fills keys (keyOf Vertice vertices) (vertices .count) n) {f : Found} (s : Sought keys n key f) where
+  module _ {keys : List ℕ} {n : ℕ} (lent : Fills keys (keyOf Vertice vertices) (vertices .count) n) {f : Found} (s : Sought keys n key f) where
     pub elsewhere-none : f ≡ Nothing → false ≡ elsewhere vertices nodes key name
-    elsewhere-none e = rw (← names-column fills key, ← sought-none keys n key s e)
+    elsewhere-none e = rw (← names-lent lent key, ← sought-none keys n key s e)
 
     pub elsewhere-found : {j : ℕ} {r : Bool} → f ≡ At j → r ≡ meets vertices nodes key name → not r ≡ elsewhere vertices nodes key name
-    elsewhere-found e h = rw (← names-column fills key, ← sought-yes keys n key s e, h)
+    elsewhere-found e h = rw (← names-lent lent key, ← sought-yes keys n key s e, h)
 
     pub elsewhere-met :
         {j x y : ℕ} {r : Bool} → f ≡ At j → x ≡ xAt Vertice vertices j → y ≡ yAt Vertice vertices j → r ≡ nodeIn nodes name x y → r ≡ true
         → false ≡ elsewhere vertices nodes key name
     elsewhere-met {j} e p q h t =
         let at = sought-record keys n key s e in
-        let u : j < vertices .count = omega (arith, fills .count) in
-        elsewhere-found e (meets-any (sym (any-true _ _ u (meets-key j (fills .holds j u) (at .1) p q h ∙ t))))
+        let u : j < vertices .count = omega (arith, lent .count) in
+        elsewhere-found e (meets-any (sym (any-true _ _ u (meets-key j (lent .holds j u) (at .1) p q h ∙ t))))
 
     pub elsewhere-apart :
         {j x y : ℕ} {r : Bool} → firstDuplicate (listed keys) n ≡ none → f ≡ At j → x ≡ xAt Vertice vertices j → y ≡ yAt Vertice vertices j
@@ -137,12 +95,8 @@ module _ (vertices nodes : Table) (key name : ℕ) where
     unfolding meets
     elsewhere-apart d e p q h t =
         elsewhere-found e
-        (named-apart fills key s (λ j. nodeIn nodes name (xAt Vertice vertices j) (yAt Vertice vertices j)) d e
+        (lent-apart lent key s (λ j. nodeIn nodes name (xAt Vertice vertices j) (yAt Vertice vertices j)) d e
         (ap₂ (nodeIn nodes name) (sym p) (sym q) ∙ sym h ∙ t))
-
--- the ends are two
-pub start-last : Start ≡ Last → ⊥
-start-last e = let h = ap nodeField e in omega arith
 
 -- AN END of tramo i, from what the code reads of it
 pub apart-said :
@@ -151,8 +105,8 @@ pub apart-said :
     → line ≡ nameAt Tramo tramos i 4 → key ≡ endKey end (listed keys) n line → field ≡ nodeField end → name ≡ nameAt Tramo tramos i field
     → r ≡ elsewhere vertices nodes key name → apart end tramos vertices nodes i ≡ r
 unfolding startElsewhere endElsewhere
-apart-said Start tramos vertices nodes fills i a b c p h = rw (h, b, a, p, c)
-apart-said Last tramos vertices nodes fills i a b c p h = rw (h, b, a, p, c, highest-column fills _)
+apart-said Start tramos vertices nodes lent i a b c p h = rw (h, b, a, p, c)
+apart-said Last tramos vertices nodes lent i a b c p h = rw (h, b, a, p, c, highest-lent lent _)
 
 -- A POINT OBJECT, from the name w that the code reads of it
 module _ (points nodes : Table) (i : ℕ) {w : ℕ} (e : w ≡ nameAt ObPun points i 3) where

@@ -1,7 +1,6 @@
--- The cells of the fifties (specs/Rules.antt) as the code finds their first records, or marks all: a cell is that of the rule which
--- stands there, where none does there is nothing. The reasons with their data.
+-- The cells of the fifties (specs/Rules.antt): those of each file at which no rule is read, where no test holds. The reasons with their data.
 -- Assumes nothing.
-use Prim.Native.Nat.{ℕ, zero, suc, _+_, _≤_}
+use Prim.Native.Nat.{ℕ, zero, suc, _+_, _*_, _/_, _%_, _≤_}
 use mathlib.Core.Bool.{Bool, true, false, _&&_}
 use mathlib.Core.List.{List, [], _∷_}
 use mathlib.Core.Option.{Option, none, some}
@@ -12,22 +11,16 @@ use lib.Dec.{eqb}
 use lib.ListN.{getD}
 use borrow.Author.Tests.{eq-eqb, eqb-true}
 use Rattle.laws.specs.Find.{firstIndex}
-use Rattle.laws.proofs.FindLaws.{true-false, index-none, index-some-at}
-use Rattle.laws.proofs.RowLaws.{and-true}
+use Rattle.laws.proofs.FindLaws.{true-false, index-some-at}
 use Rattle.index.specs.declared.Found.{Found}
-use Rattle.index.specs.declared.Found.the-variants.{Nothing}
 use Rattle.index.specs.Keys.{foundOf}
-use Rattle.index.specs.Marks.{Marked, isMarked}
-use Rattle.index.proofs.MarkLaws.{marked-first}
 use Rattle.record.specs.declared.kind.Kind.{Kind}
-use Rattle.record.specs.declared.kind.Kind.the-variants.{ObPun, ObLin, Tramo, Vertice, Nodo}
+use Rattle.record.specs.declared.kind.Kind.the-variants.{Catalogo, ObPun, ObTex, ObLin, Tramo, Vertice, Nodo}
 use Rattle.record.specs.declared.reason.Reason.the-variants.{LongFile10, SamePlace54}
-use Rattle.record.specs.Table.{fileOf}
-use Rattle.record.proofs.TableLaws.{NoneOf, file-same}
+use Rattle.record.proofs.TableLaws.{NoneOf}
 use Rattle.record.specs.Says.{Table}
 use Rattle.record.specs.Files.{Delivery}
 use Rattle.keys.specs.Rules.{orFirst}
-use Rattle.keys.specs.machinery.Marks.{MarkedWhere}
 use Rattle.topology.specs.machinery.Places.{orIndex}
 use Rattle.topology.specs.Rules.{isAt, samePlace, breaks50, breaks51, breaks52, breaks53, breaks54, breaks55, breaks56, breaks57, breaks59, fifties, reasonsAt}
 
@@ -47,16 +40,10 @@ else-from (plain o) (suc v) e = else-from o v (omega arith)
 else-from (past h o) zero e = h (omega arith)
 else-from (past h o) (suc v) e = else-from o v (omega arith)
 
-else-default : {A : Type 0} {d : A} {u : ℕ} {xs : List A} → Else d u 0 xs → getD xs u d ≡ d
+pub else-default : {A : Type 0} {d : A} {u : ℕ} {xs : List A} → Else d u 0 xs → getD xs u d ≡ d
 else-default {u = u} o = else-from o u (omega arith)
 
--- WHERE A RULE IS READ
-pub read-at : (file : Kind) (field : ℕ) (k : Kind) (f : ℕ) → isAt file field k f ≡ true → (k ≡ file) × (f ≡ field)
-read-at file field k f e =
-    let h = and-true (eqb (fileOf k) (fileOf file)) (eqb f field) e in
-    (file-same k file (eqb-true (fileOf k) (fileOf file) (h .0)), eqb-true f field (h .1))
-
--- no rule is read of file k at field f for the reason u
+-- WHERE A RULE IS READ: no rule is read of file k at field f for the reason u
 pub record Free (k : Kind) (f u : ℕ) : Type 0 where
   pub gap : (isAt Vertice 2 k f && eqb u 0) ≡ false
   pub alone : (isAt Vertice 2 k f && eqb u 1) ≡ false
@@ -72,7 +59,7 @@ not-read : (b t : Bool) {u v : ℕ} → (b && eqb u v) ≡ false → u ≡ v →
 not-read true t {u} {v} h e = absurd (true-false (sym (eq-eqb u v e) ∙ h))
 not-read false t h e = refl
 
-free-tests : (d : Delivery) {k : Kind} (i : ℕ) {f u : ℕ} → Free k f u → Else false u 0 (fifties d k i f)
+pub free-tests : (d : Delivery) {k : Kind} (i : ℕ) {f u : ℕ} → Free k f u → Else false u 0 (fifties d k i f)
 unfolding breaks50 breaks51 breaks52 breaks53 breaks54 breaks55 breaks56 breaks57 breaks59 fifties
 free-tests d {k} i {f} o =
     past (not-read (isAt Vertice 2 k f) _ (o .gap))
@@ -85,39 +72,6 @@ free-tests d {k} i {f} o =
     (past (not-read (isAt ObLin 0 k f) _ (o .object))
     (plain
     (past (not-read (isAt Tramo 4 k f) _ (o .line)) end)))))))))
-
--- THE CELL of field f and reason u: the first record at which its test holds
-abbrev pub cell : Delivery → Kind → ℕ → ℕ → Found
-cell d k f u = foundOf (firstIndex (λ i. getD (fifties d k i f) u false) (d k .count))
-
-module _ (d : Delivery) (k : Kind) (f u : ℕ) where
-  -- what the code found for one file, field and reason
-  pub in-cell : (file : Kind) (field v : ℕ) {b : Bool} {r : Found} → b ≡ isAt file field k f → (b && eqb u v) ≡ true → r ≡ cell d file field v → r ≡ cell d k f u
-  in-cell file field v {b = b} e h q =
-      let w = and-true b (eqb u v) h in
-      let at = read-at file field k f (sym e ∙ w .0) in
-      rw (at .0, at .1, eqb-true u v (w .1)) q
-
-  -- what it marked
-  pub in-marks :
-      (file : Kind) (field v : ℕ) {b : Bool} {before after : List ℕ} → b ≡ isAt file field k f → (b && eqb u v) ≡ true
-      → Marked before after (λ i. getD (fifties d file i field) v false) (d file .count)
-      → MarkedWhere true before after (λ i. getD (fifties d k i f) u false) (d k .count)
-  in-marks file field v {b = b} e h q =
-      let w = and-true b (eqb u v) h in
-      let at = read-at file field k f (sym e ∙ w .0) in
-      record { long = q .long; marked = λ t. rw (at .0, at .1, eqb-true u v (w .1)) q; nowhere = λ t. absurd (true-false t) }
-
-  pub in-none : {marks : List ℕ} → Free k f u → MarkedWhere false marks marks (λ i. getD (fifties d k i f) u false) (d k .count)
-  in-none o = record { long = refl; marked = λ t. absurd (true-false (sym t)); nowhere = λ t i. else-default (free-tests d i o) }
-
--- THE FIRST that is marked is the first at which the test holds
-module _ {r : Bool} {before after : List ℕ} {test : ℕ → Bool} {n : ℕ} (w : MarkedWhere r before after test n) where
-  pub marks-found : {m : ℕ} {g : Found} → r ≡ true → m ≡ n → g ≡ foundOf (firstIndex (isMarked after) m) → g ≡ foundOf (firstIndex test n)
-  marks-found t e q = q ∙ rw e (ap foundOf (marked-first (w .marked t)))
-
-  pub marks-nothing : r ≡ false → Nothing ≡ foundOf (firstIndex test n)
-  marks-nothing t = ap foundOf (sym (index-none test n (λ i l. w .nowhere t i)))
 
 -- THE REASONS
 first-index : (o : Option ℕ) → orIndex (foundOf o) ≡ orFirst o
@@ -151,3 +105,91 @@ module _ (nodes : Table) (i u : ℕ) where
       (other (o .0 .1)
       (plain
       (other (o .1) end)))))))))))
+
+-- A CELL c that is not the one of field f and reason u
+not-cell : (c f u : ℕ) → (c ≡ f * 10 + u → ⊥) → (eqb (c / 10) f && eqb (c % 10) u) ≡ false
+not-cell c f u ne = go (eqb (c / 10) f) refl (eqb (c % 10) u) refl
+  where
+    go : (s : Bool) → eqb (c / 10) f ≡ s → (t : Bool) → eqb (c % 10) u ≡ t → (s && t) ≡ false
+    go true a true b = absurd (ne (omega (arith, eqb-true (c / 10) f a, eqb-true (c % 10) u b)))
+    go true a false b = refl
+    go false a t b = refl
+
+-- THE CELLS of each file that have no rule
+pub free-vertice : (c : ℕ) → (c ≡ 20 → ⊥) → (c ≡ 21 → ⊥) → Free Vertice (c / 10) (c % 10)
+free-vertice c a b =
+    record {
+      gap = not-cell c 2 0 a;
+      alone = not-cell c 2 1 b;
+      start = refl;
+      last = refl;
+      place = refl;
+      point = refl;
+      idle = refl;
+      object = refl;
+      line = refl;
+    }
+
+pub free-tramo : (c : ℕ) → (c ≡ 49 → ⊥) → (c ≡ 62 → ⊥) → (c ≡ 73 → ⊥) → Free Tramo (c / 10) (c % 10)
+free-tramo c a b e =
+    record {
+      gap = refl;
+      alone = refl;
+      start = not-cell c 6 2 b;
+      last = not-cell c 7 3 e;
+      place = refl;
+      point = refl;
+      idle = refl;
+      object = refl;
+      line = not-cell c 4 9 a;
+    }
+
+pub free-nodo : (c : ℕ) → (c ≡ 4 → ⊥) → (c ≡ 6 → ⊥) → Free Nodo (c / 10) (c % 10)
+free-nodo c a b =
+    record {
+      gap = refl;
+      alone = refl;
+      start = refl;
+      last = refl;
+      place = not-cell c 0 4 a;
+      point = refl;
+      idle = not-cell c 0 6 b;
+      object = refl;
+      line = refl;
+    }
+
+pub free-ob-pun : (c : ℕ) → (c ≡ 35 → ⊥) → Free ObPun (c / 10) (c % 10)
+free-ob-pun c a =
+    record {
+      gap = refl;
+      alone = refl;
+      start = refl;
+      last = refl;
+      place = refl;
+      point = not-cell c 3 5 a;
+      idle = refl;
+      object = refl;
+      line = refl;
+    }
+
+pub free-ob-lin : (c : ℕ) → (c ≡ 7 → ⊥) → Free ObLin (c / 10) (c % 10)
+free-ob-lin c a =
+    record {
+      gap = refl;
+      alone = refl;
+      start = refl;
+      last = refl;
+      place = refl;
+      point = refl;
+      idle = refl;
+      object = not-cell c 0 7 a;
+      line = refl;
+    }
+
+pub free-catalogo : (c : ℕ) → Free Catalogo (c / 10) (c % 10)
+free-catalogo c =
+    record { gap = refl; alone = refl; start = refl; last = refl; place = refl; point = refl; idle = refl; object = refl; line = refl }
+
+pub free-ob-tex : (c : ℕ) → Free ObTex (c / 10) (c % 10)
+free-ob-tex c =
+    record { gap = refl; alone = refl; start = refl; last = refl; place = refl; point = refl; idle = refl; object = refl; line = refl }

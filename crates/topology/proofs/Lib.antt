@@ -1,8 +1,12 @@
 pub mod PlaceLaws
-pub mod MarkLaws
+pub mod LentLaws
+pub mod TopLaws
 pub mod OrderRules
 pub mod EndLaws
 pub mod FiftyLaws
+pub mod FiftyTallies
 pub mod Meaning
 pub mod Agree
 pub mod SpotLaws
+pub mod UsedLaws
+pub mod IdleLaws

@@ -12,7 +12,7 @@ use Rattle.index.specs.Keys.{listed}
 use Rattle.index.specs.Marks.{Marked}
 use Rattle.index.proofs.MarkLaws.{marked-as, marked-end}
 use Rattle.record.specs.machinery.Columns.{Fills}
-use Rattle.keys.proofs.ReferLaws.{names-column}
+use Rattle.topology.proofs.LentLaws.{names-lent}
 use Rattle.topology.specs.Rules.{orderOf, gap, unpaired}
 
 module _ (key : ℕ → ℕ) (n i : ℕ) where
@@ -39,14 +39,14 @@ module _ (key : ℕ → ℕ) (n i : ℕ) where
   alone-other d = rw (ne-eqb (orderOf (key i)) 1 d)
 
 -- THE ARRAY as the column
-module _ {l : List ℕ} {key : ℕ → ℕ} {m n : ℕ} (fills : Fills l key m n) where
-  pub marks-column : {before after : List ℕ} (p q : ℕ → Bool) → Marked before after p n → ((i : ℕ) → i < m → p i ≡ q i) → Marked before after q m
-  marks-column p q s same = marked-as same (marked-end m (fills .count) (omega arith) s)
+module _ {l : List ℕ} {key : ℕ → ℕ} {m n : ℕ} (lent : Fills l key m n) where
+  pub marks-lent : {before after : List ℕ} (p q : ℕ → Bool) → Marked before after p n → ((i : ℕ) → i < m → p i ≡ q i) → Marked before after q m
+  marks-lent p q s same = marked-as same (marked-end m (lent .count) (omega arith) s)
 
-  pub gap-column : (i : ℕ) → i < m → gap (listed l) n i ≡ gap key m i
+  pub gap-lent : (i : ℕ) → i < m → gap (listed l) n i ≡ gap key m i
   unfolding gap
-  gap-column i u = rw (fills .holds i u, names-column fills (key i - 1))
+  gap-lent i u = rw (lent .holds i u, names-lent lent (key i - 1))
 
-  pub alone-column : (i : ℕ) → i < m → unpaired (listed l) n i ≡ unpaired key m i
+  pub alone-lent : (i : ℕ) → i < m → unpaired (listed l) n i ≡ unpaired key m i
   unfolding unpaired
-  alone-column i u = rw (fills .holds i u, names-column fills (key i + 1))
+  alone-lent i u = rw (lent .holds i u, names-lent lent (key i + 1))

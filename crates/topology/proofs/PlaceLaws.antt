@@ -28,7 +28,7 @@ use Rattle.topology.specs.machinery.Places.{spotOf}
 use Rattle.topology.specs.Rules.{xAt, yAt, zAt, samePlace, placedBefore}
 
 -- NUMBERS APART: two records with one number are one
-one-record : (key : ℕ → ℕ) (n : ℕ) → firstDuplicate key n ≡ none → (a b : ℕ) → a < n → b < n → key a ≡ key b → a ≡ b
+pub one-record : (key : ℕ → ℕ) (n : ℕ) → firstDuplicate key n ≡ none → (a b : ℕ) → a < n → b < n → key a ≡ key b → a ≡ b
 one-record key n d a b la lb e =
     ⊎-elim
     (λ (l : a < b). absurd (earlier a b l lb e))

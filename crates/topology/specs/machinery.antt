@@ -1,3 +1,6 @@
+pub mod Cells
 pub mod Ends
-pub mod Marks
+pub mod Lent
 pub mod Places
+pub mod Tops
+pub mod Used

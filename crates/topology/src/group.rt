@@ -1,7 +1,10 @@
-// The first break of the fifties in a file and in a delivery, by cells as keys has it.
+// The fifties: the tally of each file's rules, and the first break of a delivery.
+//
+// A rule's function only looks up and marks: the columns that several rules read, the keys of the vertices and the ids of the nodes, are
+// filled once, and all room is lent, so that a small delivery takes little of it.
 use crate::ends::End;
+use crate::ends::mark_apart;
 use crate::ends::mark_astray;
-use crate::ends::mark_elsewhere;
 use crate::ends::mark_endless;
 use crate::nodes::mark_idle_nodes;
 use crate::nodes::mark_idle_objects;
@@ -9,13 +12,23 @@ use crate::nodes::place_before;
 use crate::orders::mark_alone;
 use crate::orders::mark_gaps;
 use crate::spots::mark_same_place;
+use crate::tops::prepare_tops;
+use index::FEW_HINTS;
 use index::Found;
-use index::marks::first_marked;
-use keys::group::Best;
-use keys::group::better;
+use index::HINTS;
+use index::tally::Tally;
+use index::tally::no_tally;
+use index::tally::with_marks;
+use index::way::Way;
+use index::way::prepare;
+use keys::group::tally_of;
 use record::check::break_of;
 use record::columns::rows;
+use record::files::all_few;
 use record::files::file_of;
+use record::fill::fill_keys;
+use record::fill::fill_names;
+use record::kind::FEW;
 use record::kind::FILES;
 use record::kind::Kind;
 use record::kind::LIMIT;
@@ -24,99 +37,488 @@ use record::kind::kind_of;
 use record::reason::Finding;
 use record::reason::Reason;
 ghost use mathlib.Core.Path.{_≡_};
-ghost use mathlib.Core.Bool.{false, _&&_};
 ghost use mathlib.Core.List.{List, map};
 ghost use Prim.Native.Nat.{ℕ, _≤_, _<_};
 ghost use lib.ListN.{length, getD};
-ghost use Rattle.laws.specs.Find.{firstIndex};
-ghost use Rattle.index.specs.Keys.{foundOf};
-ghost use Rattle.keys.specs.machinery.Marks.{MarkedWhere};
-ghost use Rattle.topology.specs.machinery.Marks.{OfLines};
-ghost use Rattle.topology.specs.machinery.Places.{orIndex};
+ghost use Rattle.index.specs.Way.{Ready};
 ghost use Rattle.record.specs.Table.{limit};
 ghost use Rattle.record.specs.Files.{filesOf, deliveryOf};
 ghost use Rattle.record.specs.Says.{tableOf};
+ghost use Rattle.record.specs.Names.{nameAt, keyOf};
+ghost use Rattle.record.specs.machinery.Columns.{Fills};
 ghost use Rattle.keys.specs.Groups.{atFile};
-ghost use Rattle.topology.specs.Rules.{isAt, fifties, reasonsAt, topologyIn, topologyFinding};
+ghost use Rattle.topology.specs.machinery.Cells.{fiftyTally, fiftyTallies};
+ghost use Rattle.topology.specs.machinery.Places.{orIndex};
+ghost use Rattle.topology.specs.machinery.Tops.{Tops};
+ghost use Rattle.topology.specs.Rules.{reasonsAt, topologyIn, topologyFinding};
 
-// Whether a rule of this file and field is read of file k at field f.
-fn is_at(file: Kind, field: usize, k: Kind, f: usize) -> bool
-    ensures { λ r. ⌜ r ≡ isAt file field k f ⌝ }
+// 50 and 51, of the vertices, with their keys in hand.
+fn tally_vertices<'a, 'b>(
+    files: [&'a [u8]; FILES],
+    keys: &'b [u64],
+    order: &'b [usize],
+    hints: &'b [u16],
+    way: Way,
+    n: usize,
+    marks: &mut [u8],
+) -> Tally
+    requires { ⌜ Ready (now keys) (now order) (now hints) n way × Fills (now keys) (keyOf Kind.Vertice (deliveryOf (filesOf (map now files)) Kind.Vertice)) (deliveryOf (filesOf (map now files)) Kind.Vertice .count) n × (n ≤ length (now marks)) ⌝ }
+    ensures { λ r. ⌜ r ≡ fiftyTally (deliveryOf (filesOf (map now (files .entry)))) Kind.Vertice ⌝ }
 {
-    (k.number() == file.number()) & (f == field)
+    mark_gaps(keys, order, hints, way, n, marks);
+    let t = with_marks(no_tally(), marks, n, 20);
+    mark_alone(keys, order, hints, way, n, marks);
+    with_marks(t, marks, n, 21)
 }
 
-// Marks the records of file k that break the reason 50 + u at field f, of the reasons of vertices, tramos and point objects. False where
-// no record can break it there.
-fn mark_line_in<'a>(k: Kind, f: usize, u: usize, files: [&'a [u8]; FILES], marks: &mut [u8]) -> bool
-    requires { ⌜ (limit ≤ length (now marks)) × OfLines k f u ⌝ }
-    ensures { λ r. ⌜ MarkedWhere r (now (marks .entry)) (now (marks .exit)) (λ i. getD (fifties (deliveryOf (filesOf (map now (files .entry)))) k i f) u false) (deliveryOf (filesOf (map now (files .entry))) k .count) ⌝ }
+// 59, 52 and 53, of the tramos, with the vertices, the highest of each line and the nodes in hand.
+fn tally_ends<'a, 'b>(
+    files: [&'a [u8]; FILES],
+    keys: &'b [u64],
+    order: &'b [usize],
+    vertices: &'b [u16],
+    way: Way,
+    n: usize,
+    lines: &'b [u64],
+    line_order: &'b [usize],
+    line_hints: &'b [u16],
+    line_way: Way,
+    tops: &'b [u64],
+    ids: &'b [u64],
+    ranks: &'b [usize],
+    nodes: &'b [u16],
+    by: Way,
+    m: usize,
+    marks: &mut [u8],
+) -> Tally
+    requires { ⌜ Tops (now keys) (now lines) (now «line_order») (now «line_hints») (now tops) n «line_way» n × Ready (now keys) (now order) (now vertices) n way × Fills (now keys) (keyOf Kind.Vertice (deliveryOf (filesOf (map now files)) Kind.Vertice)) (deliveryOf (filesOf (map now files)) Kind.Vertice .count) n × Ready (now ids) (now ranks) (now nodes) m by × Fills (now ids) (λ j. nameAt Kind.Nodo (deliveryOf (filesOf (map now files)) Kind.Nodo) j 1) (deliveryOf (filesOf (map now files)) Kind.Nodo .count) m × (deliveryOf (filesOf (map now files)) Kind.Tramo .count ≤ length (now marks)) ⌝ }
+    ensures { λ r. ⌜ r ≡ fiftyTally (deliveryOf (filesOf (map now (files .entry)))) Kind.Tramo ⌝ }
 {
-    let ob_pun = file_of(files, Kind::ObPun);
     let tramo = file_of(files, Kind::Tramo);
     let vertice = file_of(files, Kind::Vertice);
     let nodo = file_of(files, Kind::Nodo);
-    if is_at(Kind::Vertice, 2, k, f) & (u == 0) {
-        mark_gaps(vertice, marks);
-        return true;
-    }
-    if is_at(Kind::Vertice, 2, k, f) & (u == 1) {
-        mark_alone(vertice, marks);
-        return true;
-    }
-    if is_at(Kind::Tramo, 6, k, f) & (u == 2) {
-        mark_elsewhere(End::Start, tramo, vertice, nodo, marks);
-        return true;
-    }
-    if is_at(Kind::Tramo, 7, k, f) & (u == 3) {
-        mark_elsewhere(End::Last, tramo, vertice, nodo, marks);
-        return true;
-    }
-    if is_at(Kind::ObPun, 3, k, f) & (u == 5) {
-        mark_astray(ob_pun, nodo, marks);
-        return true;
-    }
-    if is_at(Kind::Tramo, 4, k, f) & (u == 9) {
-        mark_endless(tramo, vertice, marks);
-        return true;
-    }
-    false
+    let r = rows(tramo, Kind::Tramo);
+    mark_endless(tramo, keys, lines, line_order, line_hints, line_way, tops, n, marks);
+    let t = with_marks(no_tally(), marks, r, 49);
+    mark_apart(
+        End::Start,
+        tramo,
+        vertice,
+        keys,
+        order,
+        vertices,
+        way,
+        n,
+        lines,
+        line_order,
+        line_hints,
+        line_way,
+        tops,
+        nodo,
+        ids,
+        ranks,
+        nodes,
+        by,
+        m,
+        marks,
+    );
+    let u = with_marks(t, marks, r, 62);
+    mark_apart(
+        End::Last,
+        tramo,
+        vertice,
+        keys,
+        order,
+        vertices,
+        way,
+        n,
+        lines,
+        line_order,
+        line_hints,
+        line_way,
+        tops,
+        nodo,
+        ids,
+        ranks,
+        nodes,
+        by,
+        m,
+        marks,
+    );
+    with_marks(u, marks, r, 73)
 }
 
-// Marks the records of file k that break the reason 50 + u at field f. False where no record can break it there.
-fn mark_in<'a>(k: Kind, f: usize, u: usize, files: [&'a [u8]; FILES], marks: &mut [u8]) -> bool
-    requires { ⌜ limit ≤ length (now marks) ⌝ }
-    ensures { λ r. ⌜ MarkedWhere r (now (marks .entry)) (now (marks .exit)) (λ i. getD (fifties (deliveryOf (filesOf (map now (files .entry)))) k i f) u false) (deliveryOf (filesOf (map now (files .entry))) k .count) ⌝ }
+// The same with room for the lines and their highest vertices.
+fn tally_tramos<'a, 'b>(
+    files: [&'a [u8]; FILES],
+    keys: &'b [u64],
+    order: &'b [usize],
+    vertices: &'b [u16],
+    way: Way,
+    n: usize,
+    ids: &'b [u64],
+    ranks: &'b [usize],
+    nodes: &'b [u16],
+    by: Way,
+    m: usize,
+    lines: &mut [u64],
+    line_hints: &mut [u16],
+    line_order: &mut [usize],
+    tops: &mut [u64],
+    marks: &mut [u8],
+) -> Tally
+    requires { ⌜ Ready (now keys) (now order) (now vertices) n way × Fills (now keys) (keyOf Kind.Vertice (deliveryOf (filesOf (map now files)) Kind.Vertice)) (deliveryOf (filesOf (map now files)) Kind.Vertice .count) n × Ready (now ids) (now ranks) (now nodes) m by × Fills (now ids) (λ j. nameAt Kind.Nodo (deliveryOf (filesOf (map now files)) Kind.Nodo) j 1) (deliveryOf (filesOf (map now files)) Kind.Nodo .count) m × (n ≤ length (now lines)) × (n ≤ length (now «line_order»)) × (n ≤ length (now tops)) × (deliveryOf (filesOf (map now files)) Kind.Tramo .count ≤ length (now marks)) ⌝ }
+    ensures { λ r. ⌜ r ≡ fiftyTally (deliveryOf (filesOf (map now (files .entry)))) Kind.Tramo ⌝ }
+{
+    let line_way = prepare_tops(keys, n, lines, line_hints, line_order, tops);
+    tally_ends(
+        files,
+        keys,
+        order,
+        vertices,
+        way,
+        n,
+        lines,
+        line_order,
+        line_hints,
+        line_way,
+        tops,
+        ids,
+        ranks,
+        nodes,
+        by,
+        m,
+        marks,
+    )
+}
+
+// 55, of the point objects, with the nodes in hand.
+fn tally_points<'a, 'b>(
+    files: [&'a [u8]; FILES],
+    ids: &'b [u64],
+    ranks: &'b [usize],
+    nodes: &'b [u16],
+    by: Way,
+    m: usize,
+    marks: &mut [u8],
+) -> Tally
+    requires { ⌜ Ready (now ids) (now ranks) (now nodes) m by × Fills (now ids) (λ j. nameAt Kind.Nodo (deliveryOf (filesOf (map now files)) Kind.Nodo) j 1) (deliveryOf (filesOf (map now files)) Kind.Nodo .count) m × (deliveryOf (filesOf (map now files)) Kind.ObPun .count ≤ length (now marks)) ⌝ }
+    ensures { λ r. ⌜ r ≡ fiftyTally (deliveryOf (filesOf (map now (files .entry)))) Kind.ObPun ⌝ }
 {
     let ob_pun = file_of(files, Kind::ObPun);
+    let nodo = file_of(files, Kind::Nodo);
+    mark_astray(ob_pun, nodo, ids, ranks, nodes, by, m, marks);
+    with_marks(no_tally(), marks, rows(ob_pun, Kind::ObPun), 35)
+}
+
+// 57, of the linear objects, with room for their ids.
+fn tally_objects<'a>(
+    files: [&'a [u8]; FILES],
+    ids: &mut [u64],
+    hints: &mut [u16],
+    order: &mut [usize],
+    used: &mut [u8],
+    marks: &mut [u8],
+) -> Tally
+    requires { ⌜ (deliveryOf (filesOf (map now files)) Kind.ObLin .count ≤ length (now ids)) × (deliveryOf (filesOf (map now files)) Kind.ObLin .count ≤ length (now order)) × (deliveryOf (filesOf (map now files)) Kind.ObLin .count ≤ length (now used)) × (deliveryOf (filesOf (map now files)) Kind.ObLin .count ≤ length (now marks)) ⌝ }
+    ensures { λ r. ⌜ r ≡ fiftyTally (deliveryOf (filesOf (map now (files .entry)))) Kind.ObLin ⌝ }
+{
     let ob_lin = file_of(files, Kind::ObLin);
     let tramo = file_of(files, Kind::Tramo);
-    let vertice = file_of(files, Kind::Vertice);
-    let nodo = file_of(files, Kind::Nodo);
-    if is_at(Kind::Nodo, 0, k, f) & (u == 4) {
-        mark_same_place(nodo, marks);
-        return true;
-    }
-    if is_at(Kind::Nodo, 0, k, f) & (u == 6) {
-        mark_idle_nodes(ob_pun, tramo, vertice, nodo, marks);
-        return true;
-    }
-    if is_at(Kind::ObLin, 0, k, f) & (u == 7) {
-        mark_idle_objects(ob_lin, tramo, marks);
-        return true;
-    }
-    mark_line_in(k, f, u, files, marks)
+    let n = fill_names(ob_lin, Kind::ObLin, 1, ids);
+    let way = prepare(ids, n, hints, order);
+    mark_idle_objects(tramo, ob_lin, ids, order, hints, way, n, used, marks);
+    with_marks(no_tally(), marks, n, 7)
 }
 
-// The first record of file k that breaks the reason 50 + u at field f.
-fn first_in<'a>(k: Kind, f: usize, u: usize, files: [&'a [u8]; FILES]) -> Found
-    ensures { λ r. ⌜ r ≡ foundOf (firstIndex (λ i. getD (fifties (deliveryOf (filesOf (map now (files .entry)))) k i f) u false) (deliveryOf (filesOf (map now (files .entry))) k .count)) ⌝ }
+// 54 and 56, of the nodes, with their ids in hand and room for places.
+fn tally_nodes<'a, 'b>(
+    files: [&'a [u8]; FILES],
+    ids: &'b [u64],
+    ranks: &'b [usize],
+    nodes: &'b [u16],
+    by: Way,
+    m: usize,
+    most: usize,
+    used: &mut [u8],
+    xs: &mut [u64],
+    ys: &mut [u64],
+    hints: &mut [u16],
+    order: &mut [usize],
+    zs: &mut [u64],
+    spots: &mut [u64],
+    pairs: &mut [u64],
+    pair_hints: &mut [u16],
+    pair_order: &mut [usize],
+    marks: &mut [u8],
+) -> Tally
+    requires { ⌜ Ready (now ids) (now ranks) (now nodes) m by × Fills (now ids) (λ j. nameAt Kind.Nodo (deliveryOf (filesOf (map now files)) Kind.Nodo) j 1) (deliveryOf (filesOf (map now files)) Kind.Nodo .count) m × ((k : Kind) → deliveryOf (filesOf (map now files)) k .count ≤ most) × (most ≤ length (now used)) × (most ≤ length (now xs)) × (most ≤ length (now ys)) × (most ≤ length (now order)) × (most ≤ length (now zs)) × (most ≤ length (now spots)) × (most ≤ length (now pairs)) × (most ≤ length (now «pair_order»)) × (most ≤ length (now marks)) ⌝ }
+    ensures { λ r. ⌜ r ≡ fiftyTally (deliveryOf (filesOf (map now (files .entry)))) Kind.Nodo ⌝ }
 {
+    let ob_pun = file_of(files, Kind::ObPun);
+    let tramo = file_of(files, Kind::Tramo);
+    let vertice = file_of(files, Kind::Vertice);
+    let nodo = file_of(files, Kind::Nodo);
+    mark_same_place(nodo, most, xs, ys, zs, spots, hints, order, pairs, marks);
+    let t = with_marks(no_tally(), marks, m, 4);
+    mark_idle_nodes(
+        ob_pun,
+        tramo,
+        vertice,
+        nodo,
+        ids,
+        ranks,
+        nodes,
+        by,
+        m,
+        most,
+        used,
+        xs,
+        ys,
+        hints,
+        order,
+        pairs,
+        pair_hints,
+        pair_order,
+        marks,
+    );
+    with_marks(t, marks, m, 6)
+}
+
+// Each file's tally, with the keys of the vertices and the ids of the nodes in hand. No rule of the fifties is read of CATALOGO and OB_TEX.
+fn tally_in_hand<'a, 'b>(
+    files: [&'a [u8]; FILES],
+    keys: &'b [u64],
+    order: &'b [usize],
+    vertices: &'b [u16],
+    way: Way,
+    n: usize,
+    ids: &'b [u64],
+    ranks: &'b [usize],
+    nodes: &'b [u16],
+    by: Way,
+    m: usize,
+    most: usize,
+    a: &mut [u64],
+    b: &mut [u64],
+    c: &mut [u64],
+    d: &mut [u64],
+    e: &mut [u64],
+    a_hints: &mut [u16],
+    a_order: &mut [usize],
+    b_hints: &mut [u16],
+    b_order: &mut [usize],
+    used: &mut [u8],
+    marks: &mut [u8],
+) -> [Tally; FILES]
+    requires { ⌜ Ready (now keys) (now order) (now vertices) n way × Fills (now keys) (keyOf Kind.Vertice (deliveryOf (filesOf (map now files)) Kind.Vertice)) (deliveryOf (filesOf (map now files)) Kind.Vertice .count) n × Ready (now ids) (now ranks) (now nodes) m by × Fills (now ids) (λ j. nameAt Kind.Nodo (deliveryOf (filesOf (map now files)) Kind.Nodo) j 1) (deliveryOf (filesOf (map now files)) Kind.Nodo .count) m × ((k : Kind) → deliveryOf (filesOf (map now files)) k .count ≤ most) × (most ≤ length (now a)) × (most ≤ length (now b)) × (most ≤ length (now c)) × (most ≤ length (now d)) × (most ≤ length (now e)) × (most ≤ length (now «a_order»)) × (most ≤ length (now «b_order»)) × (most ≤ length (now used)) × (most ≤ length (now marks)) ⌝ }
+    ensures { λ r. ⌜ r ≡ fiftyTallies (deliveryOf (filesOf (map now (files .entry)))) ⌝ }
+{
+    let points = tally_points(files, ids, ranks, nodes, by, m, marks);
+    let objects = tally_objects(files, a, a_hints, a_order, used, marks);
+    let tramos = tally_tramos(
+        files,
+        keys,
+        order,
+        vertices,
+        way,
+        n,
+        ids,
+        ranks,
+        nodes,
+        by,
+        m,
+        a,
+        a_hints,
+        a_order,
+        b,
+        marks,
+    );
+    let vertices = tally_vertices(files, keys, order, vertices, way, n, marks);
+    let nodes = tally_nodes(
+        files,
+        ids,
+        ranks,
+        nodes,
+        by,
+        m,
+        most,
+        used,
+        a,
+        b,
+        a_hints,
+        a_order,
+        c,
+        d,
+        e,
+        b_hints,
+        b_order,
+        marks,
+    );
+    [
+        no_tally(),
+        points,
+        no_tally(),
+        objects,
+        tramos,
+        vertices,
+        nodes,
+    ]
+}
+
+// Each file's tally, in lent room.
+fn tally_files<'a>(
+    files: [&'a [u8]; FILES],
+    most: usize,
+    keys: &mut [u64],
+    key_hints: &mut [u16],
+    key_order: &mut [usize],
+    ids: &mut [u64],
+    id_hints: &mut [u16],
+    id_order: &mut [usize],
+    a: &mut [u64],
+    b: &mut [u64],
+    c: &mut [u64],
+    d: &mut [u64],
+    e: &mut [u64],
+    a_hints: &mut [u16],
+    a_order: &mut [usize],
+    b_hints: &mut [u16],
+    b_order: &mut [usize],
+    used: &mut [u8],
+    marks: &mut [u8],
+) -> [Tally; FILES]
+    requires { ⌜ ((k : Kind) → deliveryOf (filesOf (map now files)) k .count ≤ most) × (most ≤ length (now keys)) × (most ≤ length (now «key_order»)) × (most ≤ length (now ids)) × (most ≤ length (now «id_order»)) × (most ≤ length (now a)) × (most ≤ length (now b)) × (most ≤ length (now c)) × (most ≤ length (now d)) × (most ≤ length (now e)) × (most ≤ length (now «a_order»)) × (most ≤ length (now «b_order»)) × (most ≤ length (now used)) × (most ≤ length (now marks)) ⌝ }
+    ensures { λ r. ⌜ r ≡ fiftyTallies (deliveryOf (filesOf (map now (files .entry)))) ⌝ }
+{
+    let n = fill_keys(file_of(files, Kind::Vertice), Kind::Vertice, keys);
+    let way = prepare(keys, n, key_hints, key_order);
+    let m = fill_names(file_of(files, Kind::Nodo), Kind::Nodo, 1, ids);
+    let by = prepare(ids, m, id_hints, id_order);
+    tally_in_hand(
+        files,
+        keys,
+        key_order,
+        key_hints,
+        way,
+        n,
+        ids,
+        id_order,
+        id_hints,
+        by,
+        m,
+        most,
+        a,
+        b,
+        c,
+        d,
+        e,
+        a_hints,
+        a_order,
+        b_hints,
+        b_order,
+        used,
+        marks,
+    )
+}
+
+// Of a delivery of a few records a file, in short arrays.
+fn tally_few<'a>(files: [&'a [u8]; FILES]) -> [Tally; FILES]
+    requires { ⌜ ((k : Kind) → deliveryOf (filesOf (map now files)) k .count ≤ 512) ⌝ }
+    ensures { λ r. ⌜ r ≡ fiftyTallies (deliveryOf (filesOf (map now (files .entry)))) ⌝ }
+{
+    let mut keys = [0u64; FEW];
+    let mut key_hints = [0u16; FEW_HINTS];
+    let mut key_order = [0usize; FEW];
+    let mut ids = [0u64; FEW];
+    let mut id_hints = [0u16; FEW_HINTS];
+    let mut id_order = [0usize; FEW];
+    let mut a = [0u64; FEW];
+    let mut b = [0u64; FEW];
+    let mut c = [0u64; FEW];
+    let mut d = [0u64; FEW];
+    let mut e = [0u64; FEW];
+    let mut a_hints = [0u16; FEW_HINTS];
+    let mut a_order = [0usize; FEW];
+    let mut b_hints = [0u16; FEW_HINTS];
+    let mut b_order = [0usize; FEW];
+    let mut used = [0u8; FEW];
+    let mut marks = [0u8; FEW];
+    tally_files(
+        files,
+        FEW,
+        &mut keys,
+        &mut key_hints,
+        &mut key_order,
+        &mut ids,
+        &mut id_hints,
+        &mut id_order,
+        &mut a,
+        &mut b,
+        &mut c,
+        &mut d,
+        &mut e,
+        &mut a_hints,
+        &mut a_order,
+        &mut b_hints,
+        &mut b_order,
+        &mut used,
+        &mut marks,
+    )
+}
+
+// Of any delivery.
+fn tally_many<'a>(files: [&'a [u8]; FILES]) -> [Tally; FILES]
+    ensures { λ r. ⌜ r ≡ fiftyTallies (deliveryOf (filesOf (map now (files .entry)))) ⌝ }
+{
+    let mut keys = [0u64; LIMIT];
+    let mut key_hints = [0u16; HINTS];
+    let mut key_order = [0usize; LIMIT];
+    let mut ids = [0u64; LIMIT];
+    let mut id_hints = [0u16; HINTS];
+    let mut id_order = [0usize; LIMIT];
+    let mut a = [0u64; LIMIT];
+    let mut b = [0u64; LIMIT];
+    let mut c = [0u64; LIMIT];
+    let mut d = [0u64; LIMIT];
+    let mut e = [0u64; LIMIT];
+    let mut a_hints = [0u16; HINTS];
+    let mut a_order = [0usize; LIMIT];
+    let mut b_hints = [0u16; HINTS];
+    let mut b_order = [0usize; LIMIT];
+    let mut used = [0u8; LIMIT];
     let mut marks = [0u8; LIMIT];
-    if mark_in(k, f, u, files, &mut marks) {
-        first_marked(&marks, rows(file_of(files, k), k))
+    tally_files(
+        files,
+        LIMIT,
+        &mut keys,
+        &mut key_hints,
+        &mut key_order,
+        &mut ids,
+        &mut id_hints,
+        &mut id_order,
+        &mut a,
+        &mut b,
+        &mut c,
+        &mut d,
+        &mut e,
+        &mut a_hints,
+        &mut a_order,
+        &mut b_hints,
+        &mut b_order,
+        &mut used,
+        &mut marks,
+    )
+}
+
+// The tally of the fifties in each file: the first break and how many there are.
+pub fn tally_topology<'a>(files: [&'a [u8]; FILES]) -> [Tally; FILES]
+    ensures { λ r. ⌜ r ≡ fiftyTallies (deliveryOf (filesOf (map now (files .entry)))) ⌝ }
+{
+    if all_few(files) {
+        tally_few(files)
     } else {
-        Found::Nothing
+        tally_many(files)
     }
 }
 
@@ -149,26 +551,15 @@ fn reason_in(u: usize, i: usize, nodo: &[u8]) -> Reason
     }
 }
 
-// The first break of the fifties in file k.
-fn check_file<'a>(k: Kind, files: [&'a [u8]; FILES]) -> Finding
+// The first break of the fifties in file k, by its tally.
+fn check_file<'a>(k: Kind, t: Tally, files: [&'a [u8]; FILES]) -> Finding
+    requires { ⌜ t ≡ fiftyTally (deliveryOf (filesOf (map now files))) k ⌝ }
     ensures { λ r. ⌜ r ≡ topologyIn (deliveryOf (filesOf (map now (files .entry)))) k ⌝ }
 {
-    let n = (k.fields() + 1) * 10;
-    let mut best = Best {
-        found: false,
-        at: 0,
-        cell: 0,
-    };
-    let mut c = 0;
-    while c < n {
-        let found = first_in(k, c / 10, c % 10, files);
-        best = better(best, found, c);
-        c += 1;
-    }
-    if best.found {
-        let i = best.at;
-        let f = best.cell / 10;
-        let u = best.cell % 10;
+    if t.found {
+        let i = t.at;
+        let f = t.cell / 10;
+        let u = t.cell % 10;
         let reason = reason_in(u, i, file_of(files, Kind::Nodo));
         Finding::Broken(break_of(reason, k, i + 1, f))
     } else {
@@ -176,12 +567,14 @@ fn check_file<'a>(k: Kind, files: [&'a [u8]; FILES]) -> Finding
     }
 }
 
-fn check_which<'a>(which: Which, files: [&'a [u8]; FILES]) -> Finding
+// What a file number's kind gives, and nothing where there is none.
+fn check_which<'a>(which: Which, tallies: [Tally; FILES], files: [&'a [u8]; FILES]) -> Finding
+    requires { ⌜ tallies ≡ fiftyTallies (deliveryOf (filesOf (map now files))) ⌝ }
     ensures { λ r. ⌜ r ≡ atFile (topologyIn (deliveryOf (filesOf (map now (files .entry))))) which ⌝ }
 {
     match which {
         Which::NoFile => Finding::Fine,
-        Which::File(k) => check_file(k, files),
+        Which::File(k) => check_file(k, tally_of(tallies, k), files),
     }
 }
 
@@ -189,9 +582,10 @@ fn check_which<'a>(which: Which, files: [&'a [u8]; FILES]) -> Finding
 pub fn check_topology<'a>(files: [&'a [u8]; FILES]) -> Finding
     ensures { λ r. ⌜ r ≡ topologyFinding (deliveryOf (filesOf (map now (files .entry)))) ⌝ }
 {
+    let tallies = tally_topology(files);
     let mut n = 0;
     while n <= FILES {
-        let v = check_which(kind_of(n), files);
+        let v = check_which(kind_of(n), tallies, files);
         if v.is_fine() {
             n += 1;
         } else {

@@ -1,7 +1,9 @@
 // Topology: vertex numbering, line ends and nodes, objects in use. Reasons 50 to 57 and 59.
-pub mod ends;
+mod ends;
 pub mod group;
-pub mod nodes;
-pub mod orders;
-pub mod places;
+mod nodes;
+mod orders;
+mod places;
 mod spots;
+mod tops;
+mod used;

@@ -2,38 +2,38 @@
 use crate::places::x_at;
 use crate::places::y_at;
 use crate::places::z_at;
+use crate::spots::fill_positions;
+use crate::spots::pair_up;
+use crate::used::mark_unheld;
+use crate::used::mark_used;
 use index::Found;
 use index::HINTS;
 use index::marks::as_mark;
-use index::pairs::fill_pairs;
+use index::marks::clear;
+use index::marks::first_marked;
 use index::pairs::has_pair;
 use index::way::Way;
-use index::way::is_there;
 use index::way::prepare;
-use record::columns::rows;
 use record::fill::fill_names;
-use record::fill::fill_places;
 use record::kind::Kind;
 use record::kind::LIMIT;
-use record::names::name;
 ghost use mathlib.Core.Path.{_≡_};
-ghost use mathlib.Core.Bool.{not, _&&_, _||_};
-ghost use mathlib.Core.List.{List};
-ghost use Prim.Native.Nat.{ℕ, _+_, _*_, _%_, _≤_, _<_, _^_};
+ghost use mathlib.Core.Bool.{not, _&&_};
+ghost use Prim.Native.Nat.{_≤_};
 ghost use lib.Dec.{eqb};
 ghost use lib.ListN.{length, getD};
-ghost use Rattle.laws.specs.Find.{firstIndex, any, names};
-ghost use Rattle.laws.specs.Row.{pick};
+ghost use Rattle.laws.specs.Find.{firstIndex, any};
 ghost use Rattle.index.specs.Keys.{foundOf};
-ghost use Rattle.index.specs.Marks.{Marked};
+ghost use Rattle.index.specs.Marks.{Marked, isMarked};
 ghost use Rattle.index.specs.Pairs.{Pairs};
 ghost use Rattle.index.specs.Way.{Ready};
+ghost use Rattle.record.specs.machinery.Columns.{Fills};
 ghost use Rattle.record.specs.Table.{limit};
 ghost use Rattle.record.specs.Says.{tableOf};
-ghost use Rattle.record.specs.machinery.Columns.{Fills};
 ghost use Rattle.record.specs.Names.{nameAt};
-ghost use Rattle.topology.specs.Rules.{xAt, yAt, zAt, placed, samePlace, placedBefore, nodeUsed, objectIdle};
-ghost use Rattle.topology.specs.machinery.Places.{spotOf, Marks};
+ghost use Rattle.topology.specs.Rules.{xAt, yAt, placed, samePlace, nodeUsed, objectIdle};
+ghost use Rattle.topology.specs.machinery.Places.{spotOf};
+ghost use Rattle.topology.specs.machinery.Used.{isNamed};
 
 // Whether node j has the X, Y and Z of node i.
 fn same_place(nodo: &[u8], i: usize, j: usize) -> bool
@@ -65,76 +65,71 @@ pub fn spot(x: u64, y: u64, z: u64) -> u64
     (x % 2147483648 * 4093082899 + y % 8589934583) % 68719476731 * 268435456 + z % 268435456
 }
 
-// Marks the records of s whose field f is a name in hand.
-fn mark_named<'a>(
-    s: &'a [u8],
-    k: Kind,
-    f: usize,
-    keys: &'a [u64],
-    order: &'a [usize],
-    hints: &'a [u16],
+// 57: marks the linear objects that no tramo names, with their ids in hand.
+pub(crate) fn mark_idle_objects<'a, 'b>(
+    tramo: &'a [u8],
+    ob_lin: &'a [u8],
+    ids: &'b [u64],
+    order: &'b [usize],
+    hints: &'b [u16],
     way: Way,
     n: usize,
-    used: &mut [u64; LIMIT],
+    used: &mut [u8],
+    marks: &mut [u8],
 )
-    requires { ⌜ Ready (now keys) (now order) (now hints) n way × (length (now used) ≡ limit) ⌝ }
-    ensures { λ _. ⌜ Marks (now (used .entry)) (now (used .exit)) (λ i. names (λ j. getD (now (keys .entry)) j 0) n (nameAt k (tableOf (now (s .entry)) k) i f)) (tableOf (now (s .entry)) k .count) ⌝ }
+    requires { ⌜ Ready (now ids) (now order) (now hints) n way × Fills (now ids) (λ j. nameAt Kind.ObLin (tableOf (now «ob_lin») Kind.ObLin) j 1) (tableOf (now «ob_lin») Kind.ObLin .count) n × (n ≤ length (now used)) × (n ≤ length (now marks)) ⌝ }
+    ensures { λ _. ⌜ Marked (now (marks .entry)) (now (marks .exit)) (objectIdle (tableOf (now («ob_lin» .entry)) Kind.ObLin) (tableOf (now (tramo .entry)) Kind.Tramo)) (tableOf (now («ob_lin» .entry)) Kind.ObLin .count) ⌝ }
 {
-    let m = rows(s, k);
-    let mut i = 0;
-    while i < m {
-        if is_there(keys, order, hints, way, n, name(s, k, i, f)) {
-            used[i] = 1;
-        }
-        i += 1;
-    }
+    clear(used, n);
+    mark_used(tramo, Kind::Tramo, 2, ids, order, hints, way, n, used);
+    mark_unheld(ids, order, hints, way, n, used, marks);
 }
 
-// Marks the records of s whose field f is what field g of a record of to names.
-fn mark_names<'a>(
-    s: &'a [u8],
-    k: Kind,
-    f: usize,
-    to: &'a [u8],
-    other: Kind,
-    g: usize,
-    used: &mut [u64; LIMIT],
+// Marks the nodes that start or end no tramo and are named by no point object, by their ids.
+fn mark_unnamed<'a, 'b>(
+    ob_pun: &'a [u8],
+    tramo: &'a [u8],
+    ids: &'b [u64],
+    order: &'b [usize],
+    hints: &'b [u16],
+    way: Way,
+    n: usize,
+    used: &mut [u8],
+    marks: &mut [u8],
 )
-    requires { ⌜ length (now used) ≡ limit ⌝ }
-    ensures { λ _. ⌜ Marks (now (used .entry)) (now (used .exit)) (λ i. names (λ j. nameAt other (tableOf (now («to» .entry)) other) j g) (tableOf (now («to» .entry)) other .count) (nameAt k (tableOf (now (s .entry)) k) i f)) (tableOf (now (s .entry)) k .count) ⌝ }
+    requires { ⌜ Ready (now ids) (now order) (now hints) n way × (n ≤ length (now used)) × (n ≤ length (now marks)) ⌝ }
+    ensures { λ _. ⌜ Marked (now (marks .entry)) (now (marks .exit)) (λ i. not (isNamed (tableOf (now («ob_pun» .entry)) Kind.ObPun) (tableOf (now (tramo .entry)) Kind.Tramo) (getD (now (ids .entry)) i 0))) n ⌝ }
 {
-    let mut keys = [0u64; LIMIT];
-    let n = fill_names(to, other, g, &mut keys);
-    let mut hints = [0u16; HINTS];
-    let mut order = [0usize; LIMIT];
-    let way = prepare(&keys, n, &mut hints, &mut order);
-    mark_named(s, k, f, &keys, &order, &hints, way, n, used);
+    clear(used, n);
+    mark_used(tramo, Kind::Tramo, 6, ids, order, hints, way, n, used);
+    mark_used(tramo, Kind::Tramo, 7, ids, order, hints, way, n, used);
+    mark_used(ob_pun, Kind::ObPun, 3, ids, order, hints, way, n, used);
+    mark_unheld(ids, order, hints, way, n, used, marks);
 }
 
-// Marks the nodes at the X and Y of one of n vertices, with the columns of their places in hand.
-fn mark_placed<'a>(
+// Whether node i, which has the mark, keeps it: none of m vertices has its X and Y.
+fn stays<'a, 'b>(
     nodo: &'a [u8],
-    xs: &'a [u64],
-    order: &'a [usize],
-    hints: &'a [u16],
+    i: usize,
+    mark: u8,
+    xs: &'b [u64],
+    order: &'b [usize],
+    hints: &'b [u16],
     way: Way,
-    ys: &'a [u64],
-    pairs: &'a [u64],
-    pair_order: &'a [usize],
-    pair_hints: &'a [u16],
+    ys: &'b [u64],
+    pairs: &'b [u64],
+    pair_order: &'b [usize],
+    pair_hints: &'b [u16],
     pair_way: Way,
-    n: usize,
-    used: &mut [u64; LIMIT],
-)
-    requires { ⌜ Ready (now xs) (now order) (now hints) n way × (n ≤ length (now ys)) × Pairs (now xs) (now ys) (now pairs) n × Ready (now pairs) (now «pair_order») (now «pair_hints») n «pair_way» × (length (now used) ≡ limit) ⌝ }
-    ensures { λ _. ⌜ Marks (now (used .entry)) (now (used .exit)) (λ i. any (λ j. eqb (getD (now (xs .entry)) j 0) (xAt Kind.Nodo (tableOf (now (nodo .entry)) Kind.Nodo) i) && eqb (getD (now (ys .entry)) j 0) (yAt Kind.Nodo (tableOf (now (nodo .entry)) Kind.Nodo) i)) n) (tableOf (now (nodo .entry)) Kind.Nodo .count) ⌝ }
+    m: usize,
+) -> bool
+    requires { ⌜ Ready (now xs) (now order) (now hints) m way × (m ≤ length (now ys)) × Pairs (now xs) (now ys) (now pairs) m × Ready (now pairs) (now «pair_order») (now «pair_hints») m «pair_way» ⌝ }
+    ensures { λ r. ⌜ r ≡ (eqb mark 1 && not (any (λ j. eqb (getD (now (xs .entry)) j 0) (xAt Kind.Nodo (tableOf (now (nodo .entry)) Kind.Nodo) i) && eqb (getD (now (ys .entry)) j 0) (yAt Kind.Nodo (tableOf (now (nodo .entry)) Kind.Nodo) i)) m)) ⌝ }
 {
-    let m = rows(nodo, Kind::Nodo);
-    let mut i = 0;
-    while i < m {
+    if mark == 1 {
         let x = x_at(nodo, Kind::Nodo, i);
         let y = y_at(nodo, Kind::Nodo, i);
-        if has_pair(
+        return !has_pair(
             xs,
             order,
             hints,
@@ -144,87 +139,136 @@ fn mark_placed<'a>(
             pair_order,
             pair_hints,
             pair_way,
-            n,
+            m,
             x,
             y,
-        ) {
-            used[i] = 1;
-        }
-        i += 1;
+        );
     }
+    false
 }
 
-// Marks the nodes at the X and Y of a vertex.
-fn mark_places<'a>(nodo: &'a [u8], vertice: &'a [u8], used: &mut [u64; LIMIT])
-    requires { ⌜ length (now used) ≡ limit ⌝ }
-    ensures { λ _. ⌜ Marks (now (used .entry)) (now (used .exit)) (λ i. placed Kind.Vertice (tableOf (now (vertice .entry)) Kind.Vertice) (tableOf (now (vertice .entry)) Kind.Vertice .count) (xAt Kind.Nodo (tableOf (now (nodo .entry)) Kind.Nodo) i) (yAt Kind.Nodo (tableOf (now (nodo .entry)) Kind.Nodo) i)) (tableOf (now (nodo .entry)) Kind.Nodo .count) ⌝ }
-{
-    let k = Kind::Vertice;
-    let mut xs = [0u64; LIMIT];
-    let n = fill_places(vertice, k, k.x_field(), &mut xs);
-    let mut ys = [0u64; LIMIT];
-    fill_places(vertice, k, k.x_field() + 2, &mut ys);
-    let mut hints = [0u16; HINTS];
-    let mut order = [0usize; LIMIT];
-    let way = prepare(&xs, n, &mut hints, &mut order);
-    let mut pairs = [0u64; LIMIT];
-    fill_pairs(&xs, &order, &hints, way, &ys, n, &mut pairs);
-    let mut pair_hints = [0u16; HINTS];
-    let mut pair_order = [0usize; LIMIT];
-    let pair_way = prepare(&pairs, n, &mut pair_hints, &mut pair_order);
-    mark_placed(
-        nodo,
-        &xs,
-        &order,
-        &hints,
-        way,
-        &ys,
-        &pairs,
-        &pair_order,
-        &pair_hints,
-        pair_way,
-        n,
-        used,
-    );
-}
-
-// Marks the records that are not in use.
-fn mark_unused(used: &[u64; LIMIT], n: usize, marks: &mut [u8])
-    requires { ⌜ (n ≤ limit) × (length (now used) ≡ limit) × (n ≤ length (now marks)) ⌝ }
-    ensures { λ _. ⌜ Marked (now (marks .entry)) (now (marks .exit)) (λ i. eqb (getD (now (used .entry)) i 0) 0) n ⌝ }
+// Takes the mark away of each of n nodes that has the X and Y of one of m vertices.
+fn unmark_placed<'a, 'b>(
+    nodo: &'a [u8],
+    n: usize,
+    xs: &'b [u64],
+    order: &'b [usize],
+    hints: &'b [u16],
+    way: Way,
+    ys: &'b [u64],
+    pairs: &'b [u64],
+    pair_order: &'b [usize],
+    pair_hints: &'b [u16],
+    pair_way: Way,
+    m: usize,
+    marks: &mut [u8],
+)
+    requires { ⌜ Ready (now xs) (now order) (now hints) m way × (m ≤ length (now ys)) × Pairs (now xs) (now ys) (now pairs) m × Ready (now pairs) (now «pair_order») (now «pair_hints») m «pair_way» × (n ≤ length (now marks)) ⌝ }
+    ensures { λ _. ⌜ Marked (now (marks .entry)) (now (marks .exit)) (λ i. isMarked (now (marks .entry)) i && not (any (λ j. eqb (getD (now (xs .entry)) j 0) (xAt Kind.Nodo (tableOf (now (nodo .entry)) Kind.Nodo) i) && eqb (getD (now (ys .entry)) j 0) (yAt Kind.Nodo (tableOf (now (nodo .entry)) Kind.Nodo) i)) m)) n ⌝ }
 {
     let mut i = 0;
     while i < n {
-        marks[i] = as_mark(used[i] == 0);
+        let mark = marks[i];
+        marks[i] = as_mark(stays(
+            nodo,
+            i,
+            mark,
+            xs,
+            order,
+            hints,
+            way,
+            ys,
+            pairs,
+            pair_order,
+            pair_hints,
+            pair_way,
+            m,
+        ));
         i += 1;
     }
 }
 
-// 56: marks the nodes that start or end no tramo, have the X and Y of no vertex, and are named by no point object.
-pub(crate) fn mark_idle_nodes<'a>(
+// Takes the mark away of each of n nodes that has the X and Y of a vertex.
+fn unmark_places<'a, 'b>(
+    vertice: &'a [u8],
+    nodo: &'a [u8],
+    n: usize,
+    most: usize,
+    xs: &mut [u64],
+    ys: &mut [u64],
+    x_hints: &mut [u16],
+    x_order: &mut [usize],
+    pairs: &mut [u64],
+    pair_hints: &mut [u16],
+    pair_order: &mut [usize],
+    marks: &mut [u8],
+)
+    requires { ⌜ (tableOf (now vertice) Kind.Vertice .count ≤ most) × (most ≤ length (now xs)) × (most ≤ length (now ys)) × (most ≤ length (now «x_order»)) × (most ≤ length (now pairs)) × (most ≤ length (now «pair_order»)) × (n ≤ length (now marks)) ⌝ }
+    ensures { λ _. ⌜ Marked (now (marks .entry)) (now (marks .exit)) (λ i. isMarked (now (marks .entry)) i && not (placed Kind.Vertice (tableOf (now (vertice .entry)) Kind.Vertice) (tableOf (now (vertice .entry)) Kind.Vertice .count) (xAt Kind.Nodo (tableOf (now (nodo .entry)) Kind.Nodo) i) (yAt Kind.Nodo (tableOf (now (nodo .entry)) Kind.Nodo) i))) n ⌝ }
+{
+    let m = fill_positions(vertice, Kind::Vertice, most, xs, ys);
+    let way = pair_up(xs, ys, m, x_hints, x_order, pairs);
+    let pair_way = prepare(pairs, m, pair_hints, pair_order);
+    unmark_placed(
+        nodo,
+        n,
+        xs,
+        x_order,
+        x_hints,
+        way,
+        ys,
+        pairs,
+        pair_order,
+        pair_hints,
+        pair_way,
+        m,
+        marks,
+    );
+}
+
+// 56: marks the nodes that start or end no tramo, have the X and Y of no vertex, and are named by no point object, with their ids in hand
+// and room lent. Vertices are read only where a node is named by nothing.
+pub(crate) fn mark_idle_nodes<'a, 'b>(
     ob_pun: &'a [u8],
     tramo: &'a [u8],
     vertice: &'a [u8],
     nodo: &'a [u8],
+    ids: &'b [u64],
+    order: &'b [usize],
+    hints: &'b [u16],
+    way: Way,
+    n: usize,
+    most: usize,
+    used: &mut [u8],
+    xs: &mut [u64],
+    ys: &mut [u64],
+    x_hints: &mut [u16],
+    x_order: &mut [usize],
+    pairs: &mut [u64],
+    pair_hints: &mut [u16],
+    pair_order: &mut [usize],
     marks: &mut [u8],
 )
-    requires { ⌜ limit ≤ length (now marks) ⌝ }
+    requires { ⌜ Ready (now ids) (now order) (now hints) n way × Fills (now ids) (λ j. nameAt Kind.Nodo (tableOf (now nodo) Kind.Nodo) j 1) (tableOf (now nodo) Kind.Nodo .count) n × (n ≤ length (now used)) × (n ≤ length (now marks)) × (tableOf (now vertice) Kind.Vertice .count ≤ most) × (most ≤ length (now xs)) × (most ≤ length (now ys)) × (most ≤ length (now «x_order»)) × (most ≤ length (now pairs)) × (most ≤ length (now «pair_order»)) ⌝ }
     ensures { λ _. ⌜ Marked (now (marks .entry)) (now (marks .exit)) (λ i. not (nodeUsed (tableOf (now («ob_pun» .entry)) Kind.ObPun) (tableOf (now (tramo .entry)) Kind.Tramo) (tableOf (now (vertice .entry)) Kind.Vertice) (tableOf (now (nodo .entry)) Kind.Nodo) i)) (tableOf (now (nodo .entry)) Kind.Nodo .count) ⌝ }
 {
-    let mut used = [0u64; LIMIT];
-    mark_names(nodo, Kind::Nodo, 1, tramo, Kind::Tramo, 6, &mut used);
-    mark_names(nodo, Kind::Nodo, 1, tramo, Kind::Tramo, 7, &mut used);
-    mark_places(nodo, vertice, &mut used);
-    mark_names(nodo, Kind::Nodo, 1, ob_pun, Kind::ObPun, 3, &mut used);
-    mark_unused(&used, rows(nodo, Kind::Nodo), marks);
-}
-
-// 57: marks the linear objects that no tramo names.
-pub(crate) fn mark_idle_objects<'a>(ob_lin: &'a [u8], tramo: &'a [u8], marks: &mut [u8])
-    requires { ⌜ limit ≤ length (now marks) ⌝ }
-    ensures { λ _. ⌜ Marked (now (marks .entry)) (now (marks .exit)) (objectIdle (tableOf (now («ob_lin» .entry)) Kind.ObLin) (tableOf (now (tramo .entry)) Kind.Tramo)) (tableOf (now («ob_lin» .entry)) Kind.ObLin .count) ⌝ }
-{
-    let mut used = [0u64; LIMIT];
-    mark_names(ob_lin, Kind::ObLin, 1, tramo, Kind::Tramo, 2, &mut used);
-    mark_unused(&used, rows(ob_lin, Kind::ObLin), marks);
+    mark_unnamed(ob_pun, tramo, ids, order, hints, way, n, used, marks);
+    let first = first_marked(marks, n);
+    let Found::At(_) = first else {
+        return;
+    };
+    unmark_places(
+        vertice,
+        nodo,
+        n,
+        most,
+        xs,
+        ys,
+        x_hints,
+        x_order,
+        pairs,
+        pair_hints,
+        pair_order,
+        marks,
+    );
 }

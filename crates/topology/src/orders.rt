@@ -59,7 +59,8 @@ fn is_alone<'a>(
     false
 }
 
-fn mark_gaps_in<'a>(
+// Marks the vertices that break 50, with their keys in hand.
+pub(crate) fn mark_gaps<'a>(
     keys: &'a [u64],
     order: &'a [usize],
     hints: &'a [u16],
@@ -77,7 +78,8 @@ fn mark_gaps_in<'a>(
     }
 }
 
-fn mark_alone_in<'a>(
+// Marks the vertices that break 51, with their keys in hand.
+pub(crate) fn mark_alone<'a>(
     keys: &'a [u64],
     order: &'a [usize],
     hints: &'a [u16],
@@ -93,30 +95,4 @@ fn mark_alone_in<'a>(
         marks[i] = as_mark(is_alone(keys, order, hints, way, n, i));
         i += 1;
     }
-}
-
-// Marks the vertices that break 50.
-pub(crate) fn mark_gaps(vertice: &[u8], marks: &mut [u8])
-    requires { ⌜ limit ≤ length (now marks) ⌝ }
-    ensures { λ _. ⌜ Marked (now (marks .entry)) (now (marks .exit)) (gap (keyOf Kind.Vertice (tableOf (now (vertice .entry)) Kind.Vertice)) (tableOf (now (vertice .entry)) Kind.Vertice .count)) (tableOf (now (vertice .entry)) Kind.Vertice .count) ⌝ }
-{
-    let mut keys = [0u64; LIMIT];
-    let n = fill_keys(vertice, Kind::Vertice, &mut keys);
-    let mut hints = [0u16; HINTS];
-    let mut order = [0usize; LIMIT];
-    let way = prepare(&keys, n, &mut hints, &mut order);
-    mark_gaps_in(&keys, &order, &hints, way, n, marks);
-}
-
-// Marks the vertices that break 51.
-pub(crate) fn mark_alone(vertice: &[u8], marks: &mut [u8])
-    requires { ⌜ limit ≤ length (now marks) ⌝ }
-    ensures { λ _. ⌜ Marked (now (marks .entry)) (now (marks .exit)) (unpaired (keyOf Kind.Vertice (tableOf (now (vertice .entry)) Kind.Vertice)) (tableOf (now (vertice .entry)) Kind.Vertice .count)) (tableOf (now (vertice .entry)) Kind.Vertice .count) ⌝ }
-{
-    let mut keys = [0u64; LIMIT];
-    let n = fill_keys(vertice, Kind::Vertice, &mut keys);
-    let mut hints = [0u16; HINTS];
-    let mut order = [0usize; LIMIT];
-    let way = prepare(&keys, n, &mut hints, &mut order);
-    mark_alone_in(&keys, &order, &hints, way, n, marks);
 }

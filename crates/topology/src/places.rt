@@ -15,8 +15,8 @@ ghost use lib.ListN.{length, getD};
 ghost use Rattle.index.specs.Way.{Ready};
 ghost use Rattle.record.specs.Table.{limit};
 ghost use Rattle.record.specs.Says.{tableOf};
-ghost use Rattle.record.specs.machinery.Columns.{Fills};
 ghost use Rattle.record.specs.Names.{nameAt};
+ghost use Rattle.record.specs.machinery.Columns.{Fills};
 ghost use Rattle.topology.specs.Rules.{xAt, yAt, zAt, nodeIn};
 
 pub(crate) fn x_at(s: &[u8], k: Kind, i: usize) -> u64
@@ -64,11 +64,11 @@ pub(crate) fn scan_node(nodo: &[u8], wanted: u64, x: u64, y: u64) -> bool
 
 // Whether a node with the name is at X and Y. The node that is found by its id decides where it is there, and where ids are known to
 // differ, since then no other has the name.
-pub(crate) fn node_at<'a>(
+pub(crate) fn node_at<'a, 'b>(
     nodo: &'a [u8],
-    ids: &'a [u64],
-    order: &'a [usize],
-    hints: &'a [u16],
+    ids: &'b [u64],
+    order: &'b [usize],
+    hints: &'b [u16],
     way: Way,
     n: usize,
     wanted: u64,

@@ -1,65 +1,130 @@
-// 54: nodes at one place. X and Y of each node are one number, and with Z another, so that two are equal exactly where the places are.
+// Places as numbers, and 54 by them: nodes at one place. X and Y of each record are one number, and with Z another, so that two are equal
+// exactly where the places are.
+use crate::nodes::spot;
 use index::HINTS;
+use index::marks::clear;
 use index::numbers::mark_repeats;
 use index::pairs::fill_pairs;
+use index::way::Way;
 use index::way::prepare;
 use record::fill::fill_places;
 use record::kind::Kind;
 use record::kind::LIMIT;
-ghost use mathlib.Core.Path.{_≡_};
-ghost use mathlib.Core.Bool.{_&&_};
-ghost use Prim.Native.Nat.{ℕ, _≤_};
-ghost use lib.Dec.{eqb};
-ghost use lib.ListN.{length};
+ghost use Prim.Native.Nat.{_≤_};
+ghost use lib.ListN.{length, getD};
+ghost use Rattle.laws.specs.Find.{any};
+ghost use Rattle.laws.specs.Row.{Narrow};
+ghost use Rattle.index.specs.Keys.{room};
 ghost use Rattle.index.specs.Marks.{Marked};
+ghost use Rattle.index.specs.Pairs.{wide, Pairs};
+ghost use Rattle.index.specs.Way.{Ready};
+ghost use Rattle.record.specs.machinery.Columns.{Fills};
 ghost use Rattle.record.specs.Table.{limit};
 ghost use Rattle.record.specs.Says.{tableOf};
-ghost use Rattle.topology.specs.Rules.{xAt, yAt, zAt, placedBefore};
-ghost use Rattle.topology.specs.machinery.Places.{Tells};
+ghost use Rattle.topology.specs.Rules.{placedBefore};
+ghost use Rattle.topology.specs.machinery.Places.{spotOf, sameIn, Positions, Nodes};
+ghost use Rattle.topology.specs.machinery.Used.{};
 
-// X and Y of each node.
-fn fill_positions(nodo: &[u8], out: &mut [u64]) -> usize
-    requires { ⌜ limit ≤ length (now out) ⌝ }
-    ensures { λ r. ⌜ Tells (now (out .exit)) (λ i j. eqb (xAt Kind.Nodo (tableOf (now (nodo .entry)) Kind.Nodo) i) (xAt Kind.Nodo (tableOf (now (nodo .entry)) Kind.Nodo) j) && eqb (yAt Kind.Nodo (tableOf (now (nodo .entry)) Kind.Nodo) i) (yAt Kind.Nodo (tableOf (now (nodo .entry)) Kind.Nodo) j)) (tableOf (now (nodo .entry)) Kind.Nodo .count) r ⌝ }
+// X and Y of each record of a file.
+pub(crate) fn fill_positions(
+    s: &[u8],
+    k: Kind,
+    most: usize,
+    xs: &mut [u64],
+    ys: &mut [u64],
+) -> usize
+    requires { ⌜ (tableOf (now s) k .count ≤ most) × (most ≤ length (now xs)) × (most ≤ length (now ys)) ⌝ }
+    ensures { λ r. ⌜ Positions (now (xs .exit)) (now (ys .exit)) k (tableOf (now (s .entry)) k) r ⌝ }
 {
-    let k = Kind::Nodo;
-    let mut xs = [0u64; LIMIT];
-    let n = fill_places(nodo, k, k.x_field(), &mut xs);
-    let mut ys = [0u64; LIMIT];
-    fill_places(nodo, k, k.x_field() + 2, &mut ys);
-    let mut hints = [0u16; HINTS];
-    let mut order = [0usize; LIMIT];
-    let way = prepare(&xs, n, &mut hints, &mut order);
-    fill_pairs(&xs, &order, &hints, way, &ys, n, out);
+    let n = fill_places(s, k, k.x_field(), xs);
+    fill_places(s, k, k.x_field() + 2, ys);
     n
+}
+
+// Two columns as one, with a way to look up the first.
+pub(crate) fn pair_up<'a>(
+    firsts: &'a [u64],
+    seconds: &'a [u64],
+    n: usize,
+    hints: &mut [u16],
+    order: &mut [usize],
+    out: &mut [u64],
+) -> Way
+    requires { ⌜ (n ≤ room) × (n ≤ length (now firsts)) × (n ≤ length (now seconds)) × (n ≤ length (now order)) × (n ≤ length (now out)) × Narrow (now seconds) n wide ⌝ }
+    ensures { λ r. ⌜ Ready (now (firsts .entry)) (now (order .exit)) (now (hints .exit)) n r ⌝ }
+    ensures pairs { λ _. ⌜ Pairs (now (firsts .entry)) (now (seconds .entry)) (now (out .exit)) n ⌝ }
+{
+    let way = prepare(firsts, n, hints, order);
+    fill_pairs(firsts, order, hints, way, seconds, n, out);
+    way
 }
 
 // X, Y and Z of each node.
-fn fill_spots(nodo: &[u8], out: &mut [u64]) -> usize
-    requires { ⌜ limit ≤ length (now out) ⌝ }
-    ensures { λ r. ⌜ Tells (now (out .exit)) (λ i j. (eqb (xAt Kind.Nodo (tableOf (now (nodo .entry)) Kind.Nodo) i) (xAt Kind.Nodo (tableOf (now (nodo .entry)) Kind.Nodo) j) && eqb (yAt Kind.Nodo (tableOf (now (nodo .entry)) Kind.Nodo) i) (yAt Kind.Nodo (tableOf (now (nodo .entry)) Kind.Nodo) j)) && eqb (zAt Kind.Nodo (tableOf (now (nodo .entry)) Kind.Nodo) i) (zAt Kind.Nodo (tableOf (now (nodo .entry)) Kind.Nodo) j)) (tableOf (now (nodo .entry)) Kind.Nodo .count) r ⌝ }
+fn fill_nodes(nodo: &[u8], most: usize, xs: &mut [u64], ys: &mut [u64], zs: &mut [u64]) -> usize
+    requires { ⌜ (tableOf (now nodo) Kind.Nodo .count ≤ most) × (most ≤ length (now xs)) × (most ≤ length (now ys)) × (most ≤ length (now zs)) ⌝ }
+    ensures { λ r. ⌜ Nodes (now (xs .exit)) (now (ys .exit)) (now (zs .exit)) (tableOf (now (nodo .entry)) Kind.Nodo) r ⌝ }
 {
     let k = Kind::Nodo;
-    let mut positions = [0u64; LIMIT];
-    let n = fill_positions(nodo, &mut positions);
-    let mut zs = [0u64; LIMIT];
-    fill_places(nodo, k, k.x_field() + 4, &mut zs);
-    let mut hints = [0u16; HINTS];
-    let mut order = [0usize; LIMIT];
-    let way = prepare(&positions, n, &mut hints, &mut order);
-    fill_pairs(&positions, &order, &hints, way, &zs, n, out);
+    let n = fill_positions(nodo, k, most, xs, ys);
+    fill_places(nodo, k, k.x_field() + 4, zs);
     n
 }
 
-// Marks the nodes at an earlier one's place.
-pub(crate) fn mark_same_place(nodo: &[u8], marks: &mut [u8])
-    requires { ⌜ limit ≤ length (now marks) ⌝ }
+// X, Y and Z of each of n records as one number (`spot`).
+fn fill_spots<'a>(xs: &'a [u64], ys: &'a [u64], zs: &'a [u64], n: usize, out: &mut [u64])
+    requires { ⌜ (n ≤ limit) × (n ≤ length (now xs)) × (n ≤ length (now ys)) × (n ≤ length (now zs)) × (n ≤ length (now out)) ⌝ }
+    ensures { λ _. ⌜ Fills (now (out .exit)) (λ i. spotOf (getD (now (xs .entry)) i 0) (getD (now (ys .entry)) i 0) (getD (now (zs .entry)) i 0)) n n ⌝ }
+{
+    let mut i = 0;
+    while i < n {
+        out[i] = spot(xs[i], ys[i], zs[i]);
+        i += 1;
+    }
+}
+
+// Marks each of n records at an earlier one's place, by the columns of X, Y and Z.
+fn mark_same<'a>(
+    xs: &'a [u64],
+    ys: &'a [u64],
+    zs: &'a [u64],
+    n: usize,
+    spots: &mut [u64],
+    hints: &mut [u16],
+    order: &mut [usize],
+    pairs: &mut [u64],
+    marks: &mut [u8],
+)
+    requires { ⌜ (n ≤ room) × (n ≤ length (now xs)) × (n ≤ length (now ys)) × (n ≤ length (now zs)) × (n ≤ length (now spots)) × (n ≤ length (now order)) × (n ≤ length (now pairs)) × (n ≤ length (now marks)) × Narrow (now ys) n wide × Narrow (now zs) n wide ⌝ }
+    ensures { λ _. ⌜ Marked (now (marks .entry)) (now (marks .exit)) (λ i. any (sameIn (now (xs .entry)) (now (ys .entry)) (now (zs .entry)) i) i) n ⌝ }
+{
+    pair_up(xs, ys, n, hints, order, pairs);
+    pair_up(pairs, zs, n, hints, order, spots);
+    let way = prepare(spots, n, hints, order);
+    mark_repeats(spots, order, hints, way, n, marks);
+}
+
+// 54: marks the nodes at an earlier one's place, with room lent. Where no two spots are equal no two places are.
+pub(crate) fn mark_same_place(
+    nodo: &[u8],
+    most: usize,
+    xs: &mut [u64],
+    ys: &mut [u64],
+    zs: &mut [u64],
+    spots: &mut [u64],
+    hints: &mut [u16],
+    order: &mut [usize],
+    pairs: &mut [u64],
+    marks: &mut [u8],
+)
+    requires { ⌜ (tableOf (now nodo) Kind.Nodo .count ≤ most) × (most ≤ length (now xs)) × (most ≤ length (now ys)) × (most ≤ length (now zs)) × (most ≤ length (now spots)) × (most ≤ length (now order)) × (most ≤ length (now pairs)) × (tableOf (now nodo) Kind.Nodo .count ≤ length (now marks)) ⌝ }
     ensures { λ _. ⌜ Marked (now (marks .entry)) (now (marks .exit)) (placedBefore (tableOf (now (nodo .entry)) Kind.Nodo)) (tableOf (now (nodo .entry)) Kind.Nodo .count) ⌝ }
 {
-    let mut spots = [0u64; LIMIT];
-    let n = fill_spots(nodo, &mut spots);
-    let mut hints = [0u16; HINTS];
-    let mut order = [0usize; LIMIT];
-    let way = prepare(&spots, n, &mut hints, &mut order);
-    mark_repeats(&spots, &order, &hints, way, n, marks);
+    let n = fill_nodes(nodo, most, xs, ys, zs);
+    fill_spots(xs, ys, zs, n, spots);
+    let way = prepare(spots, n, hints, order);
+    if way.apart {
+        clear(marks, n);
+        return;
+    }
+    mark_same(xs, ys, zs, n, spots, hints, order, pairs, marks);
 }

@@ -6,17 +6,9 @@ use mathlib.Core.List.{List}
 use mathlib.Core.Path.{_≡_}
 use lib.ListN.{length}
 use Rattle.index.specs.Marks.{Marked}
-use Rattle.record.specs.declared.kind.Target.{Target}
-use Rattle.record.specs.declared.kind.Target.the-variants.{Free, Nowhere, To}
 
 -- r is whether the marks were filled; where they weren't, the test holds at no record
 pub record MarkedWhere (r : Bool) (before after : List ℕ) (test : ℕ → Bool) (n : ℕ) : Type 0 where
   pub long : length after ≡ length before
   pub marked : r ≡ true → Marked before after test n
   pub nowhere : r ≡ false → (i : ℕ) → test i ≡ false
-
--- a field that is no reference
-abbrev pub isFree : Target → Bool
-isFree Free = true
-isFree Nowhere = false
-isFree (To k g) = false

@@ -1,7 +1,7 @@
 -- `judge::judge::check_group` meets its contract, by the ten.
 -- Assumes nothing.
 use borrow.Author.Needs.{needs}
-use Rattle.judge.specs.Verdict.{groupAt}
+use Rattle.judge.specs.machinery.Searched.{groupAt}
 use Rattle.judge.proofs.JudgeLaws.{group-else}
 use Rattle.judge.proofs.judge.check_group.Statement.{statement}
 use Rattle.judge.proofs.judge.check_group.Tie as tie

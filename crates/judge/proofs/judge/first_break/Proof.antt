@@ -1,44 +1,62 @@
--- `judge::judge::first_break` meets its contract: what the tens below 3 have, or else what a quick look shows, or else what the rest have.
+-- `judge::judge::first_break` meets its contract. The loop's invariant: the tens before `t` give nothing.
 -- Assumes nothing.
-use Prim.Native.Nat.{_+_}
+use Prim.Native.Nat.{_+_, _-_}
+use mathlib.Core.List.{map}
 use native.Mathlib.Omega.{arith}
+use denote.Ref.{now}
 use borrow.Author.Needs.{needs}
-use Rattle.laws.proofs.FindLaws.{first-start}
-use Rattle.judge.specs.Verdict.{groups, judged}
-use Rattle.judge.proofs.Tens.{nothing-yet, already, shown-fine}
+use Rattle.record.specs.Files.{filesOf}
+use Rattle.keys.proofs.OverLaws.{Fines, fines-start, fines-more, fines-here, fines-end}
+use Rattle.judge.specs.Broken.{groups}
+use Rattle.judge.specs.machinery.Searched.{groupAt, searched}
 use Rattle.judge.proofs.judge.first_break.Statement.{statement}
 use Rattle.judge.proofs.judge.first_break.Tie as tie
 
-first-from-requires : tie.Need-first-from-requires
-first-from-requires c κs = (omega arith, first-start _)
+abbrev Inv-loop : tie.InvT-loop
+Inv-loop files t₀ t = Fines (groupAt (filesOf (map now files))) (groups + 1) t
 
-is-fine-requires : tie.Need-is-fine-requires
+abbrev μ-loop : tie.MeasureT-loop
+μ-loop files t₀ t = groups + 1 - t
+
+loop-holds : tie.Need-loop-holds Inv-loop μ-loop
+loop-holds c = fines-start _ _
+
+check-group-requires : tie.Need-check-group-requires Inv-loop μ-loop
+check-group-requires c κs = search needs
+
+is-fine-requires : tie.Need-is-fine-requires Inv-loop μ-loop
 is-fine-requires c κs = search needs
 
-shown-lawful-requires : tie.Need-shown-lawful-requires
-shown-lawful-requires c κs = search needs
+add-t : tie.Need-add-t Inv-loop μ-loop
+add-t c = search needs
 
-returns : tie.Need-returns
+loop-less : tie.Need-loop-less Inv-loop μ-loop
+loop-less c = search needs
+
+loop-again : tie.Need-loop-again Inv-loop μ-loop
+loop-again c =
+    fines-more (c .before .before .before .before .loop .inv) (omega arith) (c .before .before .check-group .ensures) (c .before .is-fine .ensures) (c .if1 .taken)
+
+returns : tie.Need-returns Inv-loop μ-loop
+unfolding searched
 returns c =
-    let d = c .before .before in
-    shown-fine _ (nothing-yet _ 3 (groups + 1) (d .before .before .first-from .ensures) (d .before .is-fine .ensures) (d .if1 .taken)) (c .before .shown-lawful .ensures (c .if2 .taken))
+    fines-here (c .before .before .before .before .loop .inv) (omega arith) (c .before .before .check-group .ensures) (c .before .is-fine .ensures) (c .if1 .left)
 
-add-first-from : tie.Need-add-first-from
-add-first-from c = search needs
-
-first-from-requires-2 : tie.Need-first-from-requires-2
-first-from-requires-2 c κs =
-    let d = c .before .before in
-    (omega arith, nothing-yet _ 3 (groups + 1) (d .before .before .first-from .ensures) (d .before .is-fine .ensures) (d .if1 .taken))
-
-returns-2 : tie.Need-returns-2
-unfolding judged
-returns-2 c = c .first-from2 .ensures
-
-returns-3 : tie.Need-returns-3
-unfolding judged
-returns-3 c = already _ 3 (groups + 1) (c .before .before .first-from .ensures) (c .before .is-fine .ensures) (omega arith) (c .if1 .left)
+returns-2 : tie.Need-returns-2 Inv-loop μ-loop
+unfolding searched
+returns-2 c = fines-end (c .before .loop .inv) (omega arith)
 
 pub first-break-spec : {M : Type 1} → statement M
 first-break-spec =
-    tie.close (tie.spec first-from-requires is-fine-requires shown-lawful-requires returns add-first-from first-from-requires-2 returns-2 returns-3)
+    tie.close
+    (tie.spec
+    Inv-loop
+    μ-loop
+    loop-holds
+    check-group-requires
+    is-fine-requires
+    add-t
+    loop-less
+    loop-again
+    returns
+    returns-2)

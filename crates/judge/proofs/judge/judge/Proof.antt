@@ -2,6 +2,7 @@
 -- Assumes nothing.
 use borrow.Author.Needs.{needs}
 use Rattle.judge.specs.Verdict.{verdictOf}
+use Rattle.judge.proofs.Exact.{searched-is}
 use Rattle.judge.proofs.judge.judge.Statement.{statement}
 use Rattle.judge.proofs.judge.judge.Tie as tie
 
@@ -13,7 +14,7 @@ count-all-requires c κs = search needs
 
 returns : tie.Need-returns
 unfolding verdictOf
-returns c = rw (c .before .first-break .ensures, c .count-all .ensures)
+returns c = rw (c .before .first-break .ensures, searched-is, c .count-all .ensures)
 
 pub judge-spec : {M : Type 1} → statement M
 judge-spec = tie.close (tie.spec first-break-requires count-all-requires returns)

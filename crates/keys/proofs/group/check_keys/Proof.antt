@@ -4,18 +4,21 @@ use Prim.Native.Nat.{_+_, _-_}
 use mathlib.Core.List.{map}
 use denote.Ref.{now}
 use borrow.Author.Needs.{needs}
-use Rattle.record.specs.Table.{fileCount}
 use Rattle.record.specs.Files.{filesOf, deliveryOf}
+use Rattle.record.specs.Table.{fileCount}
 use Rattle.keys.specs.Rules.{keysIn, keysFinding}
 use Rattle.keys.proofs.OverLaws.{Onward, files-start, files-more, files-here, files-end}
 use Rattle.keys.proofs.group.check_keys.Statement.{statement}
 use Rattle.keys.proofs.group.check_keys.Tie as tie
 
 abbrev Inv-loop : tie.InvT-loop
-Inv-loop t files n₀ n = Onward (keysIn t (deliveryOf (filesOf (map now files)))) n
+Inv-loop t files tallies n₀ n = Onward (keysIn t (deliveryOf (filesOf (map now files)))) n
 
 abbrev μ-loop : tie.MeasureT-loop
-μ-loop t files n₀ n = fileCount + 1 - n
+μ-loop t files tallies n₀ n = fileCount + 1 - n
+
+tally-keys-requires : tie.Need-tally-keys-requires Inv-loop μ-loop
+tally-keys-requires c κs = search needs
 
 loop-holds : tie.Need-loop-holds Inv-loop μ-loop
 loop-holds c = files-start _
@@ -24,7 +27,7 @@ kind-of-requires : tie.Need-kind-of-requires Inv-loop μ-loop
 kind-of-requires c κs = search needs
 
 check-which-requires : tie.Need-check-which-requires Inv-loop μ-loop
-check-which-requires c κs = search needs
+check-which-requires c κs = c .before .before .before .tally-keys .ensures
 
 is-fine-requires : tie.Need-is-fine-requires Inv-loop μ-loop
 is-fine-requires c κs = search needs
@@ -56,6 +59,7 @@ check-keys-spec =
     (tie.spec
     Inv-loop
     μ-loop
+    tally-keys-requires
     loop-holds
     kind-of-requires
     check-which-requires

@@ -1,63 +1,67 @@
--- `topology::ends::mark_astray` meets its contract. The array holds the names, and there is room to look them up.
+-- `topology::ends::mark_astray` meets its contract. The loop's invariant: the marks of the point objects before `i` say 55.
 -- Assumes nothing.
-use Rattle.keys.proofs.ReferLaws.{fills-room}
-use Rattle.record.proofs.ColumnLaws.{read-fills}
+use Prim.Native.Nat.{_-_}
+use mathlib.Core.Path.{ap, _∙_}
+use Rattle.laws.specs.Count.{bit}
+use Rattle.index.specs.Marks.{Marked}
+use Rattle.index.proofs.MarkLaws.{marked-start, marked-more, marked-end}
+use Rattle.record.specs.declared.kind.Kind.the-variants.{ObPun, Nodo}
+use Rattle.record.specs.Says.{tableOf}
+use Rattle.topology.specs.Rules.{pointElsewhere}
 use borrow.Author.Needs.{needs}
 use native.Mathlib.Omega.{arith}
 use Rattle.topology.proofs.ends.mark_astray.Statement.{statement}
 use Rattle.topology.proofs.ends.mark_astray.Tie as tie
 
-slice-aggregate-fill-names : tie.Need-slice-aggregate-fill-names
-slice-aggregate-fill-names c = search needs
+abbrev Inv-loop : tie.InvT-loop
+Inv-loop ob-pun nodo ids ranks nodes by m marks₀ n i₀ marks i = Marked marks₀ marks (pointElsewhere (tableOf ob-pun ObPun) (tableOf nodo Nodo)) i
 
-fill-names-requires : tie.Need-fill-names-requires
-fill-names-requires c κs = search needs
+abbrev μ-loop : tie.MeasureT-loop
+μ-loop ob-pun nodo ids ranks nodes by m marks₀ n i₀ marks i = n - i
 
-slice-aggregate-prepare : tie.Need-slice-aggregate-prepare
-slice-aggregate-prepare c = search needs
+rows-requires : tie.Need-rows-requires Inv-loop μ-loop
+rows-requires c κs = search needs
 
-slice-aggregate-prepare-2 : tie.Need-slice-aggregate-prepare-2
-slice-aggregate-prepare-2 c = search needs
+loop-holds : tie.Need-loop-holds Inv-loop μ-loop
+loop-holds c = marked-start _ _
 
-slice-aggregate-prepare-3 : tie.Need-slice-aggregate-prepare-3
-slice-aggregate-prepare-3 c = search needs
+is-astray-requires : tie.Need-is-astray-requires Inv-loop μ-loop
+is-astray-requires c κs = (c .before .before .before .before .before .before .before .before .before .pre .0, c .before .before .before .before .before .before .before .before .before .pre .1)
 
-prepare-requires : tie.Need-prepare-requires
-prepare-requires c κs =
-    let fills = read-fills (search needs) (c .before .before .before .before .fill-names .ensures) in
-    (omega (arith, fills .count, fills .small), fills-room fills, search (needs, fills .count, fills .small))
+as-mark-requires : tie.Need-as-mark-requires Inv-loop μ-loop
+as-mark-requires c κs = search needs
 
-slice-aggregate-mark-astray-in : tie.Need-slice-aggregate-mark-astray-in
-slice-aggregate-mark-astray-in c = search needs
+slice-write-marks : tie.Need-slice-write-marks Inv-loop μ-loop
+slice-write-marks c = omega (arith, c .before .before .before .loop .inv .long, c .before .before .before .before .before .before .before .before .before .before .before .pre .2, c .before .before .before .before .rows .ensures .0)
 
-slice-aggregate-mark-astray-in-2 : tie.Need-slice-aggregate-mark-astray-in-2
-slice-aggregate-mark-astray-in-2 c = search needs
+add-i : tie.Need-add-i Inv-loop μ-loop
+add-i c = search needs
 
-slice-aggregate-mark-astray-in-3 : tie.Need-slice-aggregate-mark-astray-in-3
-slice-aggregate-mark-astray-in-3 c = search needs
+loop-less : tie.Need-loop-less Inv-loop μ-loop
+loop-less c = search needs
 
-mark-astray-in-requires : tie.Need-mark-astray-in-requires
-mark-astray-in-requires c κs = (c .before .before .before .before .before .before .prepare .ensures, read-fills (search needs) (c .before .before .before .before .before .before .before .before .before .before .before .fill-names .ensures), c .before .before .before .before .before .before .before .before .before .before .before .before .before .before .before .before .pre)
+loop-again : tie.Need-loop-again Inv-loop μ-loop
+loop-again c = marked-more (omega (arith, c .before .before .before .loop .inv .long, c .before .before .before .before .before .before .before .before .before .before .before .pre .2, c .before .before .before .before .rows .ensures .0)) (c .as-mark .ensures ∙ ap bit (c .before .is-astray .ensures)) (c .before .before .before .loop .inv)
 
-same-length : tie.Need-same-length
+same-length : tie.Need-same-length Inv-loop μ-loop
 same-length c = search needs
 
-returns : tie.Need-returns
-returns c = search needs
+returns : tie.Need-returns Inv-loop μ-loop
+returns c = marked-end _ (c .before .before .rows .ensures .0) (c .loop-test .left) (c .before .loop .inv)
 
 pub mark-astray-spec : {M : Type 1} → statement M
 mark-astray-spec =
     tie.close
     (tie.spec
-    slice-aggregate-fill-names
-    fill-names-requires
-    slice-aggregate-prepare
-    slice-aggregate-prepare-2
-    slice-aggregate-prepare-3
-    prepare-requires
-    slice-aggregate-mark-astray-in
-    slice-aggregate-mark-astray-in-2
-    slice-aggregate-mark-astray-in-3
-    mark-astray-in-requires
+    Inv-loop
+    μ-loop
+    rows-requires
+    loop-holds
+    is-astray-requires
+    as-mark-requires
+    slice-write-marks
+    add-i
+    loop-less
+    loop-again
     same-length
     returns)

@@ -1,48 +1,83 @@
--- `topology::nodes::mark_idle_nodes` meets its contract. What is not marked after the four markings is in no use.
+-- `topology::nodes::mark_idle_nodes` meets its contract. Where no node is left unnamed none is idle; else those are that have the place of no vertex.
 -- Assumes nothing.
-use Rattle.topology.specs.Rules.{nodeUsed}
-use Rattle.topology.proofs.MarkLaws.{marks-then, unused-marks}
+use Rattle.topology.proofs.IdleLaws.{idle-none, idle-left}
 use borrow.Author.Needs.{needs}
 use Rattle.topology.proofs.nodes.mark_idle_nodes.Statement.{statement}
 use Rattle.topology.proofs.nodes.mark_idle_nodes.Tie as tie
 
-mark-names-requires : tie.Need-mark-names-requires
-mark-names-requires c κs = search needs
+mark-unnamed-requires : tie.Need-mark-unnamed-requires
+mark-unnamed-requires c κs = search needs
 
-mark-names-requires-2 : tie.Need-mark-names-requires-2
-mark-names-requires-2 c κs = search needs
+first-marked-requires : tie.Need-first-marked-requires
+first-marked-requires c κs = search needs
 
-mark-places-requires : tie.Need-mark-places-requires
-mark-places-requires c κs = search needs
+enum-told : tie.Need-enum-told
+enum-told c = search needs
 
-mark-names-requires-3 : tie.Need-mark-names-requires-3
-mark-names-requires-3 c κs = search needs
-
-rows-requires : tie.Need-rows-requires
-rows-requires c κs = search needs
-
-mark-unused-requires : tie.Need-mark-unused-requires
-mark-unused-requires c κs = search needs
+enum-told-2 : tie.Need-enum-told-2
+enum-told-2 c = search needs
 
 same-length : tie.Need-same-length
 same-length c = search needs
 
+same-length-2 : tie.Need-same-length-2
+same-length-2 c = search needs
+
 returns : tie.Need-returns
-unfolding nodeUsed
-returns c =
-    unused-marks
-    (marks-then (c .before .before .before .before .before .before .before .before .before .before .before .before .mark-names .ensures) (marks-then (c .before .before .before .before .before .before .before .before .before .before .mark-names2 .ensures) (marks-then (c .before .before .before .before .before .before .before .before .mark-places .ensures) (c .before .before .before .before .before .before .mark-names3 .ensures))))
-    (c .before .before .before .before .rows .ensures .1) (c .before .before .before .before .rows .ensures .0) (c .before .before .mark-unused .ensures)
+returns c = idle-none _ _ _ _ (c .before .before .before .before .before .before .before .before .before .before .before .before .before .before .before .before .before .before .before .before .before .before .before .before .before .before .before .pre .1) (c .before .before .before .before .before .before .before .before .mark-unnamed .ensures) (c .before .before .first-marked .ensures) (c .enum-told2 .given .1)
+
+unmark-places-requires : tie.Need-unmark-places-requires
+unmark-places-requires c κs = search needs
+
+same-length-3 : tie.Need-same-length-3
+same-length-3 c = search needs
+
+same-length-4 : tie.Need-same-length-4
+same-length-4 c = search needs
+
+same-length-5 : tie.Need-same-length-5
+same-length-5 c = search needs
+
+same-length-6 : tie.Need-same-length-6
+same-length-6 c = search needs
+
+same-length-7 : tie.Need-same-length-7
+same-length-7 c = search needs
+
+same-length-8 : tie.Need-same-length-8
+same-length-8 c = search needs
+
+same-length-9 : tie.Need-same-length-9
+same-length-9 c = search needs
+
+same-length-10 : tie.Need-same-length-10
+same-length-10 c = search needs
+
+same-length-11 : tie.Need-same-length-11
+same-length-11 c = search needs
+
+returns-2 : tie.Need-returns-2
+returns-2 c = idle-left _ _ _ _ (c .before .before .before .before .before .before .before .before .before .before .before .before .before .before .before .before .before .before .before .before .before .before .before .before .before .before .before .before .before .before .before .before .before .before .before .before .before .before .before .before .before .before .before .before .before .before .before .before .before .before .before .before .pre .1) (c .before .before .before .before .before .before .before .before .before .before .before .before .before .before .before .before .before .before .before .before .before .before .before .before .before .before .before .before .before .before .before .before .before .mark-unnamed .ensures) (c .before .before .before .before .before .before .before .before .before .before .before .before .before .before .before .before .unmark-places .ensures)
 
 pub mark-idle-nodes-spec : {M : Type 1} → statement M
 mark-idle-nodes-spec =
     tie.close
     (tie.spec
-    mark-names-requires
-    mark-names-requires-2
-    mark-places-requires
-    mark-names-requires-3
-    rows-requires
-    mark-unused-requires
+    mark-unnamed-requires
+    first-marked-requires
+    enum-told
+    enum-told-2
     same-length
-    returns)
+    same-length-2
+    returns
+    unmark-places-requires
+    same-length-3
+    same-length-4
+    same-length-5
+    same-length-6
+    same-length-7
+    same-length-8
+    same-length-9
+    same-length-10
+    same-length-11
+    returns-2)

@@ -1,66 +1,62 @@
--- `topology::orders::mark_alone` meets its contract. The array holds the keys, and there is room to look them up.
+-- `topology::orders::mark_alone` meets its contract. The loop's invariant: the marks of the vertices before `i` say 51.
 -- Assumes nothing.
-use Rattle.keys.proofs.ReferLaws.{fills-room}
-use Rattle.record.proofs.ColumnLaws.{read-fills}
-use Rattle.topology.proofs.OrderRules.{marks-column, alone-column}
+use Prim.Native.Nat.{_-_}
+use mathlib.Core.Path.{refl, ap, _∙_}
+use Rattle.laws.specs.Count.{bit}
+use Rattle.index.specs.Keys.{listed}
+use Rattle.index.specs.Marks.{Marked}
+use Rattle.index.proofs.MarkLaws.{marked-start, marked-more, marked-end}
+use Rattle.topology.specs.Rules.{unpaired}
 use borrow.Author.Needs.{needs}
 use native.Mathlib.Omega.{arith}
 use Rattle.topology.proofs.orders.mark_alone.Statement.{statement}
 use Rattle.topology.proofs.orders.mark_alone.Tie as tie
 
-slice-aggregate-fill-keys : tie.Need-slice-aggregate-fill-keys
-slice-aggregate-fill-keys c = search needs
+abbrev Inv-loop : tie.InvT-loop
+Inv-loop keys order hints way n marks₀ i₀ marks i = Marked marks₀ marks (unpaired (listed keys) n) i
 
-fill-keys-requires : tie.Need-fill-keys-requires
-fill-keys-requires c κs = search needs
+abbrev μ-loop : tie.MeasureT-loop
+μ-loop keys order hints way n marks₀ i₀ marks i = n - i
 
-slice-aggregate-prepare : tie.Need-slice-aggregate-prepare
-slice-aggregate-prepare c = search needs
+loop-holds : tie.Need-loop-holds Inv-loop μ-loop
+loop-holds c = marked-start _ _
 
-slice-aggregate-prepare-2 : tie.Need-slice-aggregate-prepare-2
-slice-aggregate-prepare-2 c = search needs
+is-alone-requires : tie.Need-is-alone-requires Inv-loop μ-loop
+is-alone-requires c κs = search needs
 
-slice-aggregate-prepare-3 : tie.Need-slice-aggregate-prepare-3
-slice-aggregate-prepare-3 c = search needs
+as-mark-requires : tie.Need-as-mark-requires Inv-loop μ-loop
+as-mark-requires c κs = search needs
 
-prepare-requires : tie.Need-prepare-requires
-prepare-requires c κs =
-    let fills = read-fills (search needs) (c .before .before .before .before .fill-keys .ensures) in
-    (omega (arith, fills .count, fills .small), fills-room fills, search (needs, fills .count, fills .small))
+slice-write-marks : tie.Need-slice-write-marks Inv-loop μ-loop
+slice-write-marks c = omega (arith, c .before .before .before .loop .inv .long)
 
-slice-aggregate-mark-alone-in : tie.Need-slice-aggregate-mark-alone-in
-slice-aggregate-mark-alone-in c = search needs
+add-i : tie.Need-add-i Inv-loop μ-loop
+add-i c = search needs
 
-slice-aggregate-mark-alone-in-2 : tie.Need-slice-aggregate-mark-alone-in-2
-slice-aggregate-mark-alone-in-2 c = search needs
+loop-less : tie.Need-loop-less Inv-loop μ-loop
+loop-less c = search needs
 
-slice-aggregate-mark-alone-in-3 : tie.Need-slice-aggregate-mark-alone-in-3
-slice-aggregate-mark-alone-in-3 c = search needs
+loop-again : tie.Need-loop-again Inv-loop μ-loop
+loop-again c = marked-more (omega (arith, c .before .before .before .loop .inv .long)) (c .as-mark .ensures ∙ ap bit (c .before .is-alone .ensures)) (c .before .before .before .loop .inv)
 
-mark-alone-in-requires : tie.Need-mark-alone-in-requires
-mark-alone-in-requires c κs = search needs
-
-same-length : tie.Need-same-length
+same-length : tie.Need-same-length Inv-loop μ-loop
 same-length c = search needs
 
-returns : tie.Need-returns
-returns c =
-    let fills = read-fills (search needs) (c .before .before .before .before .before .before .before .before .before .before .before .before .before .before .fill-keys .ensures) in
-    marks-column fills _ _ (c .before .before .mark-alone-in .ensures) (alone-column fills)
+returns : tie.Need-returns Inv-loop μ-loop
+returns c = marked-end _ refl (c .loop-test .left) (c .before .loop .inv)
 
 pub mark-alone-spec : {M : Type 1} → statement M
 mark-alone-spec =
     tie.close
     (tie.spec
-    slice-aggregate-fill-keys
-    fill-keys-requires
-    slice-aggregate-prepare
-    slice-aggregate-prepare-2
-    slice-aggregate-prepare-3
-    prepare-requires
-    slice-aggregate-mark-alone-in
-    slice-aggregate-mark-alone-in-2
-    slice-aggregate-mark-alone-in-3
-    mark-alone-in-requires
+    Inv-loop
+    μ-loop
+    loop-holds
+    is-alone-requires
+    as-mark-requires
+    slice-write-marks
+    add-i
+    loop-less
+    loop-again
     same-length
     returns)

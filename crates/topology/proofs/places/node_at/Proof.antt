@@ -2,7 +2,7 @@
 -- Assumes nothing.
 use mathlib.Core.Path.{sym, _∙_}
 use Rattle.topology.specs.Rules.{nodeIn}
-use Rattle.topology.proofs.PlaceLaws.{named-none, named-here, named-apart}
+use Rattle.topology.proofs.LentLaws.{lent-none, lent-here, lent-apart}
 use borrow.Author.Needs.{needs}
 use Rattle.topology.proofs.places.node_at.Statement.{statement}
 use Rattle.topology.proofs.places.node_at.Tie as tie
@@ -21,18 +21,18 @@ is-at-requires c κs = search needs
 
 returns : tie.Need-returns
 unfolding nodeIn
-returns c = named-here (c .before .before .before .before .before .before .before .before .before .before .pre .1) _ (c .before .before .before .before .before .look .ensures .0) _ (c .before .before .before .found .given .1) (sym (c .before .is-at .ensures) ∙ c .if1 .taken)
+returns c = lent-here (c .before .before .before .before .before .before .before .before .before .before .pre .1) _ (c .before .before .before .before .before .look .ensures .0) _ (c .before .before .before .found .given .1) (sym (c .before .is-at .ensures) ∙ c .if1 .taken)
 
 returns-2 : tie.Need-returns-2
 unfolding nodeIn
-returns-2 c = named-apart (c .before .before .before .before .before .before .before .before .before .before .before .pre .1) _ (c .before .before .before .before .before .before .look .ensures .0) _ (c .before .before .before .before .before .before .before .before .before .before .before .pre .0 .apart (c .if2 .taken)) (c .before .before .before .before .found .given .1) (sym (c .before .before .is-at .ensures) ∙ c .before .if1 .left)
+returns-2 c = lent-apart (c .before .before .before .before .before .before .before .before .before .before .before .pre .1) _ (c .before .before .before .before .before .before .look .ensures .0) _ (c .before .before .before .before .before .before .before .before .before .before .before .pre .0 .apart (c .if2 .taken)) (c .before .before .before .before .found .given .1) (sym (c .before .before .is-at .ensures) ∙ c .before .if1 .left)
 
 scan-node-requires : tie.Need-scan-node-requires
 scan-node-requires c κs = search needs
 
 returns-3 : tie.Need-returns-3
 unfolding nodeIn
-returns-3 c = named-none (c .before .before .before .before .before .before .before .pre .1) _ (c .before .before .look .ensures .0) _ (c .enum-told .given .1)
+returns-3 c = lent-none (c .before .before .before .before .before .before .before .pre .1) _ (c .before .before .look .ensures .0) _ (c .enum-told .given .1)
 
 returns-4 : tie.Need-returns-4
 returns-4 c = search needs

@@ -1,88 +1,85 @@
--- `topology::spots::fill_spots` meets its contract. X and Y tell the nodes apart, and Z beside them.
+-- `topology::spots::fill_spots` meets its contract. The loop's invariant: the first `i` spots stand in the array.
 -- Assumes nothing.
+use Prim.Native.Nat.{_-_}
+use mathlib.Core.Path.{refl}
+use lib.ListN.{getD}
+use Rattle.record.proofs.ColumnLaws.{Filling, filling-none, filling-more, filling-all}
+use Rattle.topology.specs.machinery.Places.{spotOf}
 use Rattle.record.proofs.ColumnLaws.{read-fills}
-use Rattle.laws.proofs.RowLaws.{narrow-end}
-use Rattle.topology.proofs.SpotLaws.{pairs-tell}
 use borrow.Author.Needs.{needs}
 use native.Mathlib.Omega.{arith}
 use Rattle.topology.proofs.spots.fill_spots.Statement.{statement}
 use Rattle.topology.proofs.spots.fill_spots.Tie as tie
 
-slice-aggregate-fill-positions : tie.Need-slice-aggregate-fill-positions
-slice-aggregate-fill-positions c = search needs
+abbrev Inv-loop : tie.InvT-loop
+Inv-loop xs ys zs n out₀ i₀ out i = Filling (λ j. spotOf (getD xs j 0) (getD ys j 0) (getD zs j 0)) n out₀ out i
 
-fill-positions-requires : tie.Need-fill-positions-requires
-fill-positions-requires c κs = search needs
+abbrev μ-loop : tie.MeasureT-loop
+μ-loop xs ys zs n out₀ i₀ out i = n - i
 
-x-field-requires : tie.Need-x-field-requires
-x-field-requires c κs = search needs
+loop-holds : tie.Need-loop-holds Inv-loop μ-loop
+loop-holds c = filling-none _ _
 
-add-fill-places : tie.Need-add-fill-places
-add-fill-places c = search needs
+mul-spot : tie.Need-mul-spot Inv-loop μ-loop
+mul-spot c = search needs
 
-slice-aggregate-fill-places : tie.Need-slice-aggregate-fill-places
-slice-aggregate-fill-places c = search needs
+shared-slice-read-spot : tie.Need-shared-slice-read-spot Inv-loop μ-loop
+shared-slice-read-spot c = search needs
 
-fill-places-requires : tie.Need-fill-places-requires
-fill-places-requires c κs = search needs
+mul-spot-2 : tie.Need-mul-spot-2 Inv-loop μ-loop
+mul-spot-2 c = search needs
 
-slice-aggregate-prepare : tie.Need-slice-aggregate-prepare
-slice-aggregate-prepare c = search needs
+shared-slice-read-spot-2 : tie.Need-shared-slice-read-spot-2 Inv-loop μ-loop
+shared-slice-read-spot-2 c = search needs
 
-slice-aggregate-prepare-2 : tie.Need-slice-aggregate-prepare-2
-slice-aggregate-prepare-2 c = search needs
+mul-spot-3 : tie.Need-mul-spot-3 Inv-loop μ-loop
+mul-spot-3 c = search needs
 
-slice-aggregate-prepare-3 : tie.Need-slice-aggregate-prepare-3
-slice-aggregate-prepare-3 c = search needs
+shared-slice-read-spot-3 : tie.Need-shared-slice-read-spot-3 Inv-loop μ-loop
+shared-slice-read-spot-3 c = search needs
 
-prepare-requires : tie.Need-prepare-requires
-prepare-requires c κs = search needs
+spot-requires : tie.Need-spot-requires Inv-loop μ-loop
+spot-requires c κs = search needs
 
-slice-aggregate-fill-pairs : tie.Need-slice-aggregate-fill-pairs
-slice-aggregate-fill-pairs c = search needs
+mul-out : tie.Need-mul-out Inv-loop μ-loop
+mul-out c = omega (arith, c .before .before .before .before .before .loop .inv .long, c .before .before .before .before .before .before .before .before .before .before .pre .4)
 
-slice-aggregate-fill-pairs-2 : tie.Need-slice-aggregate-fill-pairs-2
-slice-aggregate-fill-pairs-2 c = search needs
+slice-write-out : tie.Need-slice-write-out Inv-loop μ-loop
+slice-write-out c = omega (arith, c .before .before .before .before .before .loop .inv .long, c .before .before .before .before .before .before .before .before .before .before .pre .4)
 
-slice-aggregate-fill-pairs-3 : tie.Need-slice-aggregate-fill-pairs-3
-slice-aggregate-fill-pairs-3 c = search needs
+add-i : tie.Need-add-i Inv-loop μ-loop
+add-i c = search needs
 
-slice-aggregate-fill-pairs-4 : tie.Need-slice-aggregate-fill-pairs-4
-slice-aggregate-fill-pairs-4 c = search needs
+loop-less : tie.Need-loop-less Inv-loop μ-loop
+loop-less c = search needs
 
-fill-pairs-requires : tie.Need-fill-pairs-requires
-fill-pairs-requires c κs =
-    let fz = read-fills (search needs) (rw (c .before .before .before .before .before .before .before .before .before .before .before .before .before .before .x-field .ensures .0) at (c .before .before .before .before .before .before .before .before .before .before .before .before .fill-places .ensures .0)) in
-    let t = c .before .before .before .before .before .before .before .before .before .before .before .before .before .before .before .before .fill-positions .ensures in
-    (c .before .before .before .before .before .before .before .prepare .ensures, search (needs, t .count, t .small), search (needs, t .count, t .small), narrow-end (omega (arith, t .count, fz .count)) (c .before .before .before .before .before .before .before .before .before .before .before .before .fill-places .ensures .1))
+loop-again : tie.Need-loop-again Inv-loop μ-loop
+loop-again c = filling-more (c .before .before .before .before .before .loop .inv) (c .before .before .before .before .before .before .before .before .before .before .pre .4) (c .before .before .before .before .loop-test .taken) (c .spot .ensures)
 
-same-length : tie.Need-same-length
-same-length c = search needs
+same-length : tie.Need-same-length Inv-loop μ-loop
+same-length c = c .before .loop .inv .long
 
-returns : tie.Need-returns
-returns c =
-    let fz = read-fills (search needs) (rw (c .before .before .before .before .before .before .before .before .before .before .before .before .before .before .before .before .before .x-field .ensures .0) at (c .before .before .before .before .before .before .before .before .before .before .before .before .before .before .before .fill-places .ensures .0)) in
-    let t = c .before .before .before .before .before .before .before .before .before .before .before .before .before .before .before .before .before .before .before .fill-positions .ensures in
-    pairs-tell (t .count) (t .equal) fz (c .before .before .before .before .before .before .before .before .before .before .before .before .before .before .before .fill-places .ensures .1) (c .before .before .fill-pairs .ensures)
+returns : tie.Need-returns Inv-loop μ-loop
+returns c = read-fills (c .before .before .before .before .before .before .pre .4) (filling-all (c .before .loop .inv) (c .before .before .before .before .before .before .pre .4) (c .before .before .before .before .before .before .pre .0) (c .loop-test .left) refl)
 
 pub fill-spots-spec : {M : Type 1} → statement M
 fill-spots-spec =
     tie.close
     (tie.spec
-    slice-aggregate-fill-positions
-    fill-positions-requires
-    x-field-requires
-    add-fill-places
-    slice-aggregate-fill-places
-    fill-places-requires
-    slice-aggregate-prepare
-    slice-aggregate-prepare-2
-    slice-aggregate-prepare-3
-    prepare-requires
-    slice-aggregate-fill-pairs
-    slice-aggregate-fill-pairs-2
-    slice-aggregate-fill-pairs-3
-    slice-aggregate-fill-pairs-4
-    fill-pairs-requires
+    Inv-loop
+    μ-loop
+    loop-holds
+    mul-spot
+    shared-slice-read-spot
+    mul-spot-2
+    shared-slice-read-spot-2
+    mul-spot-3
+    shared-slice-read-spot-3
+    spot-requires
+    mul-out
+    slice-write-out
+    add-i
+    loop-less
+    loop-again
     same-length
     returns)

@@ -1,4 +1,4 @@
--- `topology::ends::End::key` meets its contract. The start's is said by the line, the last one's is found in the order.
+-- `topology::ends::End::key` meets its contract. The start's is said by the line, the last one's is looked up.
 -- Assumes nothing.
 use borrow.Author.Needs.{needs}
 use Rattle.topology.proofs.ends.End.key.Statement.{statement}
@@ -17,7 +17,7 @@ enum-told-2 : tie.Need-enum-told-2
 enum-told-2 c = search needs
 
 highest-of-requires : tie.Need-highest-of-requires
-highest-of-requires c κs = (c .before .before .before .before .pre .0 (c .enum-told2 .given .1), c .before .before .before .before .pre .1)
+highest-of-requires c κs = c .before .before .before .before .before .before .before .pre .0
 
 returns : tie.Need-returns
 returns c = rw (c .enum-told .given .1)

@@ -1,0 +1,252 @@
+-- The laws of records in use (specs/machinery/Used.antt): the loop that looks names up, one file's names after another's, and the marks of
+-- the records that are left.
+-- Assumes nothing.
+use Prim.Native.Nat.{ℕ, _+_, _<_, _≤_, _-_}
+use mathlib.Core.Bool.{Bool, true, false, not, _&&_, _||_}
+use mathlib.Core.List.{List}
+use mathlib.Core.Logic.{⊎-elim}
+use mathlib.Core.Option.{none}
+use mathlib.Core.Path.{_≡_, refl, sym, ap, subst, _∙_}
+use native.Mathlib.Omega.{arith}
+use borrow.Author.Count.{below-none, below-more}
+use borrow.Author.Tests.{leb-false, eq-eqb, ne-eqb, eqb-true, not-false}
+use lib.Dec.{eqb, leb}
+use lib.ListN.{length, getD, set, length-set}
+use lib.Seq.{getD-set-same, getD-set-other}
+use Rattle.laws.specs.Find.{any, names}
+use Rattle.laws.specs.Row.{pick}
+use Rattle.laws.specs.Count.{bit}
+use Rattle.laws.proofs.FindLaws.{true-false, any-more}
+use Rattle.laws.proofs.RowLaws.{and-true}
+use Rattle.index.specs.Keys.{listed, firstDuplicate}
+use Rattle.index.specs.Look.{Sought}
+use Rattle.index.specs.Hint.{slotOf, pointed, guessOf}
+use Rattle.index.specs.Way.{uptoOf, lastAt, keyed, findOf, isFound, Complete, lookOf, Ready}
+use Rattle.index.specs.Marks.{Marked}
+use Rattle.index.specs.declared.Found.{Found}
+use Rattle.index.specs.declared.Found.the-variants.{At, Nothing}
+use Rattle.index.specs.declared.way.Way.{Way}
+use Rattle.index.proofs.OrderLaws.{same-or}
+use Rattle.index.proofs.WayLaws.{look-hinted}
+use Rattle.record.specs.machinery.Columns.{Fills}
+use Rattle.topology.proofs.LentLaws.{one-record}
+use Rattle.topology.specs.machinery.Used.{foundBelow, putAt, freeAt, Used, Free, Unheld}
+
+-- A LOOK-UP that finds a record has its key, whatever the table says
+nothing-at : {r : ℕ} → Nothing ≡ At r → ⊥
+nothing-at e = let z : _≡_ {A = ℕ} 0 1 = cc in omega arith
+
+picked : (t : Bool) {h r : ℕ} → pick t Nothing (At h) ≡ At r → (t ≡ false) × (h ≡ r)
+picked true e = absurd (nothing-at e)
+picked false e = (refl, cc)
+
+or-first : (a b : Bool) → (a || b) ≡ false → a ≡ false
+or-first true b e = e
+or-first false b e = refl
+
+or-last : (a b : Bool) → (a || b) ≡ false → b ≡ false
+or-last true b e = let z : _≡_ {A = ℕ} 0 1 = cc in absurd (omega arith)
+or-last false b e = e
+
+or-true : (t : Bool) → (t || true) ≡ true
+or-true true = refl
+or-true false = refl
+
+or-false : (t : Bool) → (t || false) ≡ t
+or-false true = refl
+or-false false = refl
+
+and-false : (t : Bool) → (t && false) ≡ false
+and-false true = refl
+and-false false = refl
+
+pointed-own : (keys : List ℕ) (n x h : ℕ) {r : ℕ} → pointed keys n x h ≡ At r → getD keys r 0 ≡ x
+unfolding pointed
+pointed-own keys n x h {r} e =
+    let other : Bool = not (eqb (getD keys (h - 1) 0) x) in
+    let p = picked (eqb h 0 || leb n (h - 1) || leb (length keys) (h - 1) || other) e in
+    let q = or-last (eqb h 0 || leb n (h - 1) || leb (length keys) (h - 1)) other (p .0) in
+    ap (λ (j : ℕ). getD keys j 0) (sym (p .1)) ∙ eqb-true (getD keys (h - 1) 0) x (not-false _ q)
+
+pointed-below : (keys : List ℕ) (n x h : ℕ) {r : ℕ} → pointed keys n x h ≡ At r → r < n
+unfolding pointed
+pointed-below keys n x h {r} e =
+    let past : Bool = eqb h 0 || leb n (h - 1) in
+    let p = picked (past || leb (length keys) (h - 1) || not (eqb (getD keys (h - 1) 0) x)) e in
+    let q = or-first past _ (or-first (past || leb (length keys) (h - 1)) _ (p .0)) in
+    omega (arith, leb-false n (h - 1) (or-last (eqb h 0) (leb n (h - 1)) q), p .1)
+
+keyed-own : (keys : List ℕ) (x : ℕ) (f : Found) {r : ℕ} → keyed keys x f ≡ At r → getD keys r 0 ≡ x
+keyed-own keys x Nothing e = absurd (nothing-at e)
+keyed-own keys x (At h) e = go (eqb (getD keys h 0) x) refl e
+  where
+    go : (t : Bool) → eqb (getD keys h 0) x ≡ t → {r : ℕ} → pick t (At h) Nothing ≡ At r → getD keys r 0 ≡ x
+    go true q {r} e = let z : h ≡ r = cc in ap (λ (j : ℕ). getD keys j 0) (sym z) ∙ eqb-true (getD keys h 0) x q
+    go false q e = absurd (nothing-at e)
+
+look-own : (keys order hints : List ℕ) (t : Bool) (n x : ℕ) {r : ℕ} → lookOf keys order hints t n x ≡ At r → getD keys r 0 ≡ x
+unfolding lookOf guessOf findOf
+look-own keys order hints true n x e = pointed-own keys n x (getD hints (slotOf keys hints x) 0) e
+look-own keys order hints false n x e = keyed-own keys x (lastAt order (uptoOf keys order n x)) e
+
+-- and it is one of the records, so that it stands in an array that is long enough
+pub sought-below : (keys : List ℕ) (n x : ℕ) (f : Found) {m : ℕ} → Sought keys n x f → n ≤ m → foundBelow f m
+unfolding Sought
+sought-below keys n x Nothing s l = tt
+sought-below keys n x (At r) s l = let h : r < n = s .0 in omega arith
+
+-- AN ID'S OWN RECORD is the one that its look-up finds, where hints find every id and no two are equal
+guess-self :
+    (keys hints : List ℕ) (n i : ℕ) → Complete keys hints n → firstDuplicate (listed keys) n ≡ none → i < n → guessOf keys hints n (getD keys i 0) ≡ At i
+unfolding Complete guessOf
+guess-self keys hints n i all d l = go (pointed keys n x h) refl (all i l)
+  where
+    x : ℕ
+    x = getD keys i 0
+
+    h : ℕ
+    h = getD hints (slotOf keys hints (getD keys i 0)) 0
+
+    go : (f : Found) → pointed keys n x h ≡ f → isFound f ≡ true → f ≡ At i
+    go Nothing e q = absurd (true-false (sym q))
+    go (At r) e q = ap At (one-record (listed keys) n d r i (pointed-below keys n x h e) l (pointed-own keys n x h e))
+
+pub look-self :
+    {keys order hints : List ℕ} {n : ℕ} {way : Way} (i : ℕ) → Ready keys order hints n way → (way .hinted && way .apart) ≡ true → i < n
+    → At i ≡ lookOf keys order hints (way .hinted) n (getD keys i 0)
+look-self {keys} {order} {hints} {n} {way} i r e l =
+    let h = and-true (way .hinted) (way .apart) e in
+    look-hinted keys order hints n (getD keys i 0) (h .0) (sym (guess-self keys hints n i (r .hinted (h .0)) (r .apart (h .1)) l))
+
+pub sought-self : (keys : List ℕ) (n i : ℕ) → i < n → Sought keys n (getD keys i 0) (At i)
+unfolding Sought
+sought-self keys n i l = (l, refl)
+
+-- a record that was found: it is below, 1 is put at it, it is free
+pub below-at : (f : Found) (m : ℕ) {r : ℕ} → foundBelow f m → f ≡ At r → r < m
+below-at f m {r} b e = subst (λ (f : Found). foundBelow f m) e b
+
+pub put-at : (used : List ℕ) {f : Found} {r : ℕ} → f ≡ At r → set used r 1 ≡ putAt used f
+put-at used e = rw e
+
+pub free-at : (used : List ℕ) {f : Found} {r : ℕ} → f ≡ At r → eqb (getD used r 0) 0 ≡ freeAt used f
+free-at used e = rw e
+
+-- THE LOOP that looks names up: after the first i of them the records that they name are in use. At the start none is,
+module _ {ids order hints : List ℕ} {t : Bool} {n : ℕ} (key : ℕ → ℕ) where
+  pub used-start : (used : List ℕ) → Used ids order hints t n used used (names key 0)
+  unfolding any
+  used-start used = record { long = refl; marked = λ x r e. go (eqb (getD used r 0) 0) }
+    where
+      go : (z : Bool) → z ≡ (z && true)
+      go true = refl
+      go false = refl
+
+  -- one more name,
+  pub used-more :
+      {before used now : List ℕ} {i x : ℕ} (f : Found) → Used ids order hints t n before used (names key i) → n ≤ length before
+      → x ≡ key i → Sought ids n x f → f ≡ lookOf ids order hints t n x → now ≡ putAt used f
+      → Used ids order hints t n before now (names key (i + 1))
+  unfolding Sought
+  used-more {before} {used} {now} {i} {x} Nothing u room k s q e =
+      record {
+        long = ap length e ∙ u .long;
+        marked =
+            λ y r found.
+            ap (λ (l : List ℕ). eqb (getD l r 0) 0) e
+            ∙ u .marked y r found
+            ∙ ap (λ (b : Bool). eqb (getD before r 0) 0 && not b) (sym (other y (λ z. nothing-at (q ∙ ap (lookOf ids order hints t n) (k ∙ z) ∙ found))));
+      }
+    where
+      other : (y : ℕ) → (key i ≡ y → ⊥) → names key (i + 1) y ≡ names key i y
+      other y d = any-more _ i ∙ ap (λ (b : Bool). names key i y || b) (ne-eqb (key i) y d) ∙ or-false (names key i y)
+  used-more {before} {used} {now} {i} {x} (At a) u room k s q e =
+      record {
+        long = ap length e ∙ length-set used a 1 ∙ u .long;
+        marked = λ y r found. ap (λ (l : List ℕ). eqb (getD l r 0) 0) e ∙ ⊎-elim (here y r found) (there y r found) (same-or (key i) y);
+      }
+    where
+      here : (y r : ℕ) → lookOf ids order hints t n y ≡ At r → key i ≡ y → eqb (getD (set used a 1) r 0) 0 ≡ (eqb (getD before r 0) 0 && not (names key (i + 1) y))
+      here y r found z =
+          let w : At a ≡ At r = q ∙ ap (lookOf ids order hints t n) (k ∙ z) ∙ found in
+          let v : a ≡ r = cc in
+          let l : a < n = s .0 in
+          ap (λ (j : ℕ). eqb (getD (set used a 1) j 0) 0) (sym v)
+          ∙ ap (λ (b : ℕ). eqb b 0) (getD-set-same used a 1 0 (omega (arith, u .long)))
+          ∙ sym (ap (λ (b : Bool). eqb (getD before r 0) 0 && not b) (any-more _ i ∙ ap (λ (b : Bool). names key i y || b) (eq-eqb (key i) y z) ∙ or-true (names key i y)) ∙ and-false (eqb (getD before r 0) 0))
+
+      there : (y r : ℕ) → lookOf ids order hints t n y ≡ At r → (key i ≡ y → ⊥) → eqb (getD (set used a 1) r 0) 0 ≡ (eqb (getD before r 0) 0 && not (names key (i + 1) y))
+      there y r found d =
+          ap (λ (b : ℕ). eqb b 0) (getD-set-other used a r 1 0 (λ (z : r ≡ a). d (sym k ∙ sym (s .1) ∙ ap (λ (j : ℕ). getD ids j 0) (sym z) ∙ look-own ids order hints t n y found)))
+          ∙ u .marked y r found
+          ∙ ap (λ (b : Bool). eqb (getD before r 0) 0 && not b) (sym (any-more _ i ∙ ap (λ (b : Bool). names key i y || b) (ne-eqb (key i) y d) ∙ or-false (names key i y)))
+
+  -- and all of them
+  pub used-end :
+      {before used : List ℕ} {i m : ℕ} (c : ℕ) → i ≤ m → m ≤ i → m ≡ c → Used ids order hints t n before used (names key i)
+      → Used ids order hints t n before used (names key c)
+  used-end {i = i} c l le e u = let q : i ≡ c = omega arith in rw q at u
+
+-- ONE FILE'S NAMES after another's: what either names
+neither : (z p q : Bool) → ((z && not p) && not q) ≡ (z && not (p || q))
+neither true true q = refl
+neither true false q = refl
+neither false p q = refl
+
+pub used-then :
+    {ids order hints : List ℕ} {t : Bool} {n : ℕ} {a b c : List ℕ} {p q : ℕ → Bool} → Used ids order hints t n a b p → Used ids order hints t n b c q
+    → Used ids order hints t n a c (λ x. p x || q x)
+used-then {a = a} {p = p} {q = q} u w =
+    record {
+      long = w .long ∙ u .long;
+      marked =
+          λ x r found.
+          w .marked x r found ∙ ap (λ (z : Bool). z && not (q x)) (u .marked x r found) ∙ neither (eqb (getD a r 0) 0) (p x) (q x);
+    }
+
+-- THE LOOP that marks the records which are not in use
+free : {ids order hints : List ℕ} {t : Bool} {n : ℕ} {used : List ℕ} {i x : ℕ} (f : Found) → i < n → Sought ids n (getD ids i 0) f
+    → f ≡ lookOf ids order hints t n (getD ids i 0) → x ≡ bit (freeAt used f) → Free ids order hints t n used (getD ids i 0) x
+unfolding Sought
+free {i = i} Nothing l s q e = absurd (s i l refl)
+free (At r) l s q e = record { at = r; within = s .0; found = sym q; says = e }
+
+module _ {ids order hints : List ℕ} {t : Bool} {n : ℕ} {used : List ℕ} where
+  pub unheld-start : (marks : List ℕ) → Unheld ids order hints t n used marks marks 0
+  unheld-start marks = record { long = refl; each = below-none _ }
+
+  pub unheld-more :
+      {before marks : List ℕ} {i x : ℕ} (f : Found) → i < n → n ≤ length before → Unheld ids order hints t n used before marks i
+      → Sought ids n (getD ids i 0) f → f ≡ lookOf ids order hints t n (getD ids i 0) → x ≡ bit (freeAt used f)
+      → Unheld ids order hints t n used before (set marks i x) (i + 1)
+  unheld-more {before} {marks} {i} {x} f l room u s q e =
+      record {
+        long = length-set marks i x ∙ u .long;
+        each =
+            below-more (λ (j : ℕ). Free ids order hints t n used (getD ids j 0) (getD (set marks i x) j 0)) i
+            (λ j lj. rw (getD-set-other marks i j x 0 (λ (z : j ≡ i). omega arith)) (u .each j lj))
+            (rw (getD-set-same marks i x 0 (omega (arith, u .long))) (free f l s q e));
+      }
+
+  pub unheld-end : {before marks : List ℕ} {i : ℕ} → n ≤ i → Unheld ids order hints t n used before marks i → Unheld ids order hints t n used before marks n
+  unheld-end le u = record { long = u .long; each = λ j l. u .each j (omega arith) }
+
+-- THE RECORDS that are in no use, where at the start none was
+pub idle-marks :
+    {ids order hints : List ℕ} {t : Bool} {n : ℕ} {dirty clean used before marks : List ℕ} {test : ℕ → Bool} → Marked dirty clean (λ i. false) n
+    → Used ids order hints t n clean used test → Unheld ids order hints t n used before marks n → Marked before marks (λ i. not (test (getD ids i 0))) n
+idle-marks {ids} {test = test} clear u h =
+    record {
+      long = h .long;
+      says =
+          λ i l.
+          let f = h .each i l in
+          f .says
+          ∙ ap bit (u .marked (getD ids i 0) (f .at) (f .found) ∙ ap (λ (z : ℕ). eqb z 0 && not (test (getD ids i 0))) (clear .says (f .at) (f .within)));
+    }
+
+-- MARKS by what is in an array, and by the column
+pub hand-marks :
+    {out before marks : List ℕ} {column : ℕ → ℕ} {n r : ℕ} (p : ℕ → Bool) → Fills out column n r → Marked before marks (λ i. p (getD out i 0)) r
+    → Marked before marks (λ i. p (column i)) n
+hand-marks p h m = record { long = m .long; says = λ i l. m .says i (omega (arith, h .count)) ∙ ap (λ (z : ℕ). bit (p z)) (h .holds i l) }

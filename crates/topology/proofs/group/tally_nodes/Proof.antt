@@ -1,0 +1,99 @@
+use native.Mathlib.Nat.{le-trans}
+use mathlib.Core.List.{map}
+use denote.Ref.{now}
+use native.Mathlib.Omega.{arith}
+use Rattle.record.specs.declared.kind.Kind.the-variants.{Nodo, Vertice}
+use Rattle.record.specs.Files.{filesOf, deliveryOf}
+use Rattle.topology.proofs.FiftyTallies.{none-little, little, places-in, nodes-in}
+use borrow.Author.Needs.{needs}
+use Rattle.topology.proofs.group.tally_nodes.Statement.{statement}
+use Rattle.topology.proofs.group.tally_nodes.Tie as tie
+
+file-of-requires : tie.Need-file-of-requires
+file-of-requires c κs = search needs
+
+file-of-requires-2 : tie.Need-file-of-requires-2
+file-of-requires-2 c κs = search needs
+
+file-of-requires-3 : tie.Need-file-of-requires-3
+file-of-requires-3 c κs = search needs
+
+file-of-requires-4 : tie.Need-file-of-requires-4
+file-of-requires-4 c κs = search needs
+
+mark-same-place-requires : tie.Need-mark-same-place-requires
+mark-same-place-requires c κs = let p = c .before .before .before .before .before .before .before .before .before .before .before .before .before .before .before .before .before .before .before .before .before .before .before .before .before .before .pre in (rw (c .before .before .before .before .before .before .before .before .file-of4 .ensures) (p .2 Nodo), p .4, p .5, p .7, p .8, p .6, p .9, le-trans (rw (c .before .before .before .before .before .before .before .before .file-of4 .ensures) (p .2 Nodo)) (p .11))
+
+no-tally-requires : tie.Need-no-tally-requires
+no-tally-requires c κs = search needs
+
+with-marks-requires : tie.Need-with-marks-requires
+with-marks-requires c κs = let p = c .before .before .before .before .before .before .before .before .before .before .before .before .before .before .before .before .before .before .before .before .before .before .before .before .before .before .before .before .before .before .before .before .before .before .before .before .before .before .before .before .before .before .before .before .before .pre in (none-little (c .before .no-tally .ensures), omega (arith, c .before .before .before .before .before .before .before .before .before .before .before .before .before .before .before .before .before .before .mark-same-place .ensures .long, p .1 .count, p .2 Nodo, p .11), omega (arith, p .1 .count, p .1 .small))
+
+mark-idle-nodes-requires : tie.Need-mark-idle-nodes-requires
+mark-idle-nodes-requires c κs = let p = c .before .before .before .before .before .before .before .before .before .before .before .before .before .before .before .before .before .before .before .before .before .before .before .before .before .before .before .before .before .before .before .before .before .before .before .before .before .before .before .before .before .before .before .before .before .before .before .before .before .before .before .before .before .before .before .pre in (p .0, rw (c .before .before .before .before .before .before .before .before .before .before .before .before .before .before .before .before .before .before .before .before .before .before .before .before .before .before .before .before .before .before .before .before .before .before .before .before .before .file-of4 .ensures) (p .1), omega (arith, p .1 .count, p .2 Nodo, p .3), omega (arith, c .before .before .before .before .before .before .before .before .before .before .before .before .before .before .before .before .before .before .before .before .before .before .before .before .before .before .before .before .mark-same-place .ensures .long, p .1 .count, p .2 Nodo, p .11), rw (c .before .before .before .before .before .before .before .before .before .before .before .before .before .before .before .before .before .before .before .before .before .before .before .before .before .before .before .before .before .before .before .before .before .before .before .before .before .before .file-of3 .ensures) (p .2 Vertice), omega (arith, c .before .before .before .before .before .before .before .before .before .before .before .before .before .before .before .before .before .before .before .before .before .before .before .before .before .before .before .xs .given, p .4), omega (arith, c .before .before .before .before .before .before .before .before .before .before .before .before .before .before .before .before .before .before .before .before .before .before .before .before .before .ys .given, p .5), omega (arith, c .before .before .before .before .before .before .before .before .before .before .before .before .before .before .before .before .before .order .given, p .6), omega (arith, c .before .before .before .before .before .before .before .before .before .before .before .before .before .before .before .pairs .given, p .9), p .10)
+
+with-marks-requires-2 : tie.Need-with-marks-requires-2
+with-marks-requires-2 c κs = let p = c .before .before .before .before .before .before .before .before .before .before .before .before .before .before .before .before .before .before .before .before .before .before .before .before .before .before .before .before .before .before .before .before .before .before .before .before .before .before .before .before .before .before .before .before .before .before .before .before .before .before .before .before .before .before .before .before .before .before .before .before .before .before .before .before .before .before .before .before .before .before .before .before .before .before .before .pre in (little (deliveryOf (filesOf (map now (c .before .before .before .before .before .before .before .before .before .before .before .before .before .before .before .before .before .before .before .before .before .before .before .before .before .before .before .before .before .before .before .before .before .before .before .before .before .before .before .before .before .before .before .before .before .before .before .before .before .before .before .before .before .before .before .before .before .before .before .before .before .before .before .before .before .before .before .before .before .before .before .before .before .before .before .args .files)))) Nodo _ 5 (p .1 .small) (omega arith) (places-in (filesOf (map now (c .before .before .before .before .before .before .before .before .before .before .before .before .before .before .before .before .before .before .before .before .before .before .before .before .before .before .before .before .before .before .before .before .before .before .before .before .before .before .before .before .before .before .before .before .before .before .before .before .before .before .before .before .before .before .before .before .before .before .before .before .before .before .before .before .before .before .before .before .before .before .before .before .before .before .before .args .files))) (c .before .before .before .before .before .before .before .before .before .before .before .before .before .before .before .before .before .before .before .before .before .before .before .before .before .before .before .before .before .before .before .before .before .before .before .before .before .before .before .before .before .before .before .before .before .before .before .before .before .before .before .before .before .before .before .before .before .file-of4 .ensures) (p .1 .count) (c .before .before .before .before .before .before .before .before .before .before .before .before .before .before .before .before .before .before .before .before .before .before .before .before .before .before .before .before .before .before .before .no-tally .ensures) (c .before .before .before .before .before .before .before .before .before .before .before .before .before .before .before .before .before .before .before .before .before .before .before .before .before .before .before .before .before .before .before .before .before .before .before .before .before .before .before .before .before .before .before .before .before .before .before .before .mark-same-place .ensures) (c .before .before .before .before .before .before .before .before .before .before .before .before .before .before .before .before .before .before .before .before .before .before .before .before .before .before .before .before .before .with-marks .ensures)), omega (arith, c .before .before .before .before .before .before .before .before .before .before .before .before .before .before .before .before .before .before .before .mark-idle-nodes .ensures .long, c .before .before .before .before .before .before .before .before .before .before .before .before .before .before .before .before .before .before .before .before .before .before .before .before .before .before .before .before .before .before .before .before .before .before .before .before .before .before .before .before .before .before .before .before .before .before .before .before .mark-same-place .ensures .long, p .1 .count, p .2 Nodo, p .11), omega (arith, p .1 .count, p .1 .small))
+
+same-length : tie.Need-same-length
+same-length c = search needs
+
+same-length-2 : tie.Need-same-length-2
+same-length-2 c = omega (arith, c .before .before .before .before .before .before .before .before .before .before .before .before .before .before .before .before .before .xs2 .given, c .before .before .before .before .before .before .before .before .before .before .before .before .before .before .before .before .before .before .before .before .before .before .before .before .before .before .before .before .before .before .before .before .before .before .before .before .before .before .before .before .before .before .before .before .before .before .before .before .xs .given)
+
+same-length-3 : tie.Need-same-length-3
+same-length-3 c = omega (arith, c .before .before .before .before .before .before .before .before .before .before .before .before .before .before .before .ys2 .given, c .before .before .before .before .before .before .before .before .before .before .before .before .before .before .before .before .before .before .before .before .before .before .before .before .before .before .before .before .before .before .before .before .before .before .before .before .before .before .before .before .before .before .before .before .before .before .ys .given)
+
+same-length-4 : tie.Need-same-length-4
+same-length-4 c = omega (arith, c .before .before .before .before .before .before .before .before .before .before .before .before .before .hints2 .given, c .before .before .before .before .before .before .before .before .before .before .before .before .before .before .before .before .before .before .before .before .before .before .before .before .before .before .before .before .before .before .before .before .before .before .before .before .before .before .before .before .hints .given)
+
+same-length-5 : tie.Need-same-length-5
+same-length-5 c = omega (arith, c .before .before .before .before .before .before .before .before .before .before .before .order2 .given, c .before .before .before .before .before .before .before .before .before .before .before .before .before .before .before .before .before .before .before .before .before .before .before .before .before .before .before .before .before .before .before .before .before .before .before .before .before .before .order .given)
+
+same-length-6 : tie.Need-same-length-6
+same-length-6 c = omega (arith, c .before .before .before .before .before .before .before .before .before .before .before .before .before .before .before .before .before .before .before .before .before .before .before .before .before .before .before .before .before .before .before .before .before .before .before .before .before .before .before .before .before .before .before .before .zs .given)
+
+same-length-7 : tie.Need-same-length-7
+same-length-7 c = omega (arith, c .before .before .before .before .before .before .before .before .before .before .before .before .before .before .before .before .before .before .before .before .before .before .before .before .before .before .before .before .before .before .before .before .before .before .before .before .before .before .before .before .before .before .spots .given)
+
+same-length-8 : tie.Need-same-length-8
+same-length-8 c = omega (arith, c .before .before .before .before .before .before .before .before .before .pairs2 .given, c .before .before .before .before .before .before .before .before .before .before .before .before .before .before .before .before .before .before .before .before .before .before .before .before .before .before .before .before .before .before .before .before .before .before .before .before .pairs .given)
+
+same-length-9 : tie.Need-same-length-9
+same-length-9 c = omega (arith, c .before .before .before .before .before .before .before .pair-hints .given)
+
+same-length-10 : tie.Need-same-length-10
+same-length-10 c = omega (arith, c .before .before .before .before .before .pair-order .given)
+
+same-length-11 : tie.Need-same-length-11
+same-length-11 c = omega (arith, c .before .before .before .marks2 .given, c .before .before .before .before .before .before .before .before .before .before .before .before .before .before .before .before .before .before .before .before .before .before .before .before .before .before .before .before .before .before .before .before .before .before .marks .given)
+
+returns : tie.Need-returns
+returns c = let p = c .before .before .before .before .before .before .before .before .before .before .before .before .before .before .before .before .before .before .before .before .before .before .before .before .before .before .before .before .before .before .before .before .before .before .before .before .before .before .before .before .before .before .before .before .before .before .before .before .before .before .before .before .before .before .before .before .before .before .before .before .before .before .before .before .before .before .before .before .before .before .before .before .before .before .before .before .pre in nodes-in (filesOf (map now (c .before .before .before .before .before .before .before .before .before .before .before .before .before .before .before .before .before .before .before .before .before .before .before .before .before .before .before .before .before .before .before .before .before .before .before .before .before .before .before .before .before .before .before .before .before .before .before .before .before .before .before .before .before .before .before .before .before .before .before .before .before .before .before .before .before .before .before .before .before .before .before .before .before .before .before .before .args .files))) (c .before .before .before .before .before .before .before .before .before .before .before .before .before .before .before .before .before .before .before .before .before .before .before .before .before .before .before .before .before .before .before .before .before .before .before .before .before .before .before .before .before .before .before .before .before .before .before .before .before .before .before .before .before .before .before .before .before .before .before .before .before .file-of .ensures) (c .before .before .before .before .before .before .before .before .before .before .before .before .before .before .before .before .before .before .before .before .before .before .before .before .before .before .before .before .before .before .before .before .before .before .before .before .before .before .before .before .before .before .before .before .before .before .before .before .before .before .before .before .before .before .before .before .before .before .before .before .file-of2 .ensures) (c .before .before .before .before .before .before .before .before .before .before .before .before .before .before .before .before .before .before .before .before .before .before .before .before .before .before .before .before .before .before .before .before .before .before .before .before .before .before .before .before .before .before .before .before .before .before .before .before .before .before .before .before .before .before .before .before .before .before .before .file-of3 .ensures) (c .before .before .before .before .before .before .before .before .before .before .before .before .before .before .before .before .before .before .before .before .before .before .before .before .before .before .before .before .before .before .before .before .before .before .before .before .before .before .before .before .before .before .before .before .before .before .before .before .before .before .before .before .before .before .before .before .before .before .file-of4 .ensures) (p .1 .count) (places-in (filesOf (map now (c .before .before .before .before .before .before .before .before .before .before .before .before .before .before .before .before .before .before .before .before .before .before .before .before .before .before .before .before .before .before .before .before .before .before .before .before .before .before .before .before .before .before .before .before .before .before .before .before .before .before .before .before .before .before .before .before .before .before .before .before .before .before .before .before .before .before .before .before .before .before .before .before .before .before .before .before .args .files))) (c .before .before .before .before .before .before .before .before .before .before .before .before .before .before .before .before .before .before .before .before .before .before .before .before .before .before .before .before .before .before .before .before .before .before .before .before .before .before .before .before .before .before .before .before .before .before .before .before .before .before .before .before .before .before .before .before .before .before .file-of4 .ensures) (p .1 .count) (c .before .before .before .before .before .before .before .before .before .before .before .before .before .before .before .before .before .before .before .before .before .before .before .before .before .before .before .before .before .before .before .before .no-tally .ensures) (c .before .before .before .before .before .before .before .before .before .before .before .before .before .before .before .before .before .before .before .before .before .before .before .before .before .before .before .before .before .before .before .before .before .before .before .before .before .before .before .before .before .before .before .before .before .before .before .before .before .mark-same-place .ensures) (c .before .before .before .before .before .before .before .before .before .before .before .before .before .before .before .before .before .before .before .before .before .before .before .before .before .before .before .before .before .before .with-marks .ensures)) (c .before .before .before .before .before .before .before .before .before .before .before .before .before .before .before .before .before .before .before .before .mark-idle-nodes .ensures) (c .with-marks2 .ensures)
+
+pub tally-nodes-spec : {M : Type 1} → statement M
+tally-nodes-spec =
+    tie.close
+    (tie.spec
+    file-of-requires
+    file-of-requires-2
+    file-of-requires-3
+    file-of-requires-4
+    mark-same-place-requires
+    no-tally-requires
+    with-marks-requires
+    mark-idle-nodes-requires
+    with-marks-requires-2
+    same-length
+    same-length-2
+    same-length-3
+    same-length-4
+    same-length-5
+    same-length-6
+    same-length-7
+    same-length-8
+    same-length-9
+    same-length-10
+    same-length-11
+    returns)

@@ -1,0 +1,108 @@
+// Which records are named by others, by one table of their ids: each name is looked up, and the record that is found is in use.
+//
+// Why the records of equal ids are told together: a look-up finds one record for each id, and that record's place in `used` is written and
+// read for all that have the id.
+use index::Found;
+use index::marks::as_mark;
+use index::way::Way;
+use index::way::look;
+use record::columns::rows;
+use record::kind::Kind;
+use record::names::name;
+ghost use mathlib.Core.Path.{_≡_};
+ghost use Prim.Native.Nat.{_<_, _≤_};
+ghost use lib.ListN.{length, getD};
+ghost use Rattle.laws.specs.Find.{names};
+ghost use Rattle.index.specs.Look.{Sought};
+ghost use Rattle.index.specs.Way.{lookOf, Ready};
+ghost use Rattle.record.specs.Says.{tableOf};
+ghost use Rattle.record.specs.Names.{nameAt};
+ghost use Rattle.topology.specs.machinery.Used.{foundBelow, putAt, freeAt, Used, Unheld};
+
+// The record that was found is in use.
+fn put(found: Found, used: &mut [u8])
+    requires { ⌜ foundBelow found (length (now used)) ⌝ }
+    ensures { λ _. ⌜ now (used .exit) ≡ putAt (now (used .entry)) found ⌝ }
+{
+    match found {
+        Found::Nothing => {}
+        Found::At(r) => {
+            used[r] = 1;
+        }
+    }
+}
+
+// The records that field f of a record of s names are in use.
+pub(crate) fn mark_used<'a, 'b>(
+    s: &'a [u8],
+    k: Kind,
+    f: usize,
+    ids: &'b [u64],
+    order: &'b [usize],
+    hints: &'b [u16],
+    way: Way,
+    n: usize,
+    used: &mut [u8],
+)
+    requires { ⌜ Ready (now ids) (now order) (now hints) n way × (n ≤ length (now used)) ⌝ }
+    ensures { λ _. ⌜ Used (now (ids .entry)) (now (order .entry)) (now (hints .entry)) (way .hinted) n (now (used .entry)) (now (used .exit)) (names (λ j. nameAt k (tableOf (now (s .entry)) k) j f) (tableOf (now (s .entry)) k .count)) ⌝ }
+{
+    let m = rows(s, k);
+    let mut i = 0;
+    while i < m {
+        let found = look(ids, order, hints, way, n, name(s, k, i, f));
+        put(found, used);
+        i += 1;
+    }
+}
+
+// The record that a look-up of id i finds. It is record i, and needs no look-up, where hints find every id and ids are known to differ.
+fn holder<'a>(
+    ids: &'a [u64],
+    order: &'a [usize],
+    hints: &'a [u16],
+    way: Way,
+    n: usize,
+    i: usize,
+) -> Found
+    requires { ⌜ Ready (now ids) (now order) (now hints) n way × (i < n) ⌝ }
+    ensures { λ r. ⌜ Sought (now (ids .entry)) n (getD (now (ids .entry)) i 0) r ⌝ }
+    ensures same { λ r. ⌜ r ≡ lookOf (now (ids .entry)) (now (order .entry)) (now (hints .entry)) (way .hinted) n (getD (now (ids .entry)) i 0) ⌝ }
+{
+    if way.hinted & way.apart {
+        return Found::At(i);
+    }
+    look(ids, order, hints, way, n, ids[i])
+}
+
+// Whether the record that was found is not in use.
+fn is_free(found: Found, used: &[u8]) -> bool
+    requires { ⌜ foundBelow found (length (now used)) ⌝ }
+    ensures { λ r. ⌜ r ≡ freeAt (now (used .entry)) found ⌝ }
+{
+    match found {
+        Found::Nothing => true,
+        Found::At(r) => used[r] == 0,
+    }
+}
+
+// Marks the records that are not in use: an id's record is the one that its look-up finds.
+pub(crate) fn mark_unheld<'a>(
+    ids: &'a [u64],
+    order: &'a [usize],
+    hints: &'a [u16],
+    way: Way,
+    n: usize,
+    used: &'a [u8],
+    marks: &mut [u8],
+)
+    requires { ⌜ Ready (now ids) (now order) (now hints) n way × (n ≤ length (now used)) × (n ≤ length (now marks)) ⌝ }
+    ensures { λ _. ⌜ Unheld (now (ids .entry)) (now (order .entry)) (now (hints .entry)) (way .hinted) n (now (used .entry)) (now (marks .entry)) (now (marks .exit)) n ⌝ }
+{
+    let mut i = 0;
+    while i < n {
+        let found = holder(ids, order, hints, way, n, i);
+        marks[i] = as_mark(is_free(found, used));
+        i += 1;
+    }
+}
