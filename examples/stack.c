@@ -1,6 +1,6 @@
 /*
- * How much stack the calls take: those on each delivery named are made on a thread whose stack was painted before, and what lost its
- * paint is counted. Prints the most that a judging and any other call took, and fails where that passes CANOPYRAIL_STACK or the
+ * How much stack the calls take: those on each delivery named, and on one of many nodes at one place (more records than short arrays
+ * serve, and nothing is shown quickly), are made on a thread whose stack was painted before, and what lost its paint is counted. Prints the most that a judging and any other call took, and fails where that passes CANOPYRAIL_STACK or the
  * 64 KiB that the header names for the others.
  *
  *     cc -std=c11 -pthread -I include examples/stack.c "$(tools/archive)/libcanopyrail.a" -o stack
@@ -92,6 +92,19 @@ static void load(const char *folder)
     }
 }
 
+/* Many nodes at one place: the second breaks 54. */
+static void load_nodes(void)
+{
+    enum { NODES = 1000, LENGTH = 50 };
+    static uint8_t nodes[NODES * LENGTH + 1];
+
+    for (int i = 0; i < NODES; i++)
+        snprintf((char *)nodes + i * LENGTH, LENGTH + 1, "%010d| |+|000000100|+|0000000200| |        \r\n", i);
+    for (size_t i = 0; i < FILES; i++)
+        files[i] = (canopyrail_bytes){NULL, 0};
+    files[CANOPYRAIL_NODO - 1] = (canopyrail_bytes){nodes, NODES * LENGTH};
+}
+
 /* What the thread does. */
 static void (*work)(void);
 
@@ -156,6 +169,12 @@ int main(int argc, char **argv)
     }
     for (size_t i = 0; i < FILES; i++)
         free(held[i]);
+    load_nodes();
+    judging = greater(judging, taken(judge));
+    if (canopyrail_reason(answered) != 54) {
+        fprintf(stderr, "stack: many nodes at one place are told as %d\n", (int)canopyrail_reason(answered));
+        return 2;
+    }
     judging -= least;
     other -= least;
     printf("stack: a judging takes at most %zu bytes, another call at most %zu\n", judging, other);

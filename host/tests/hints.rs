@@ -1,13 +1,17 @@
-//! Deliveries whose places all fall on the same hints: the quick look gives up, and the searches by halving and by scans must say what
-//! the independent checker says. Random deliveries never get here, since a look-up has 32 places to try.
+//! Deliveries whose places or ids all fall on the same hints, in a table of either size: hints don't do, and halving must say what the
+//! independent checker says. Random deliveries never get here, since a look-up has 32 places to try.
 
 mod places;
 
 use canopyrail::Verdict;
-use places::{delivery, falling_together, WHOLE};
+use places::{delivery, falling_together, points, WHOLE};
 
-/// Places of the table of hints repeat with this period: the product of the two primes that a key is taken by (crates/index, hint.rt).
+/// Places of the longer table of hints repeat with this period: the product of the two primes that a key is taken by (crates/index,
+/// hint.rt).
 const PERIOD: u64 = 32_749 * 32_719;
+
+/// The prime of the shorter table, which serves up to 512 records a file.
+const FEW: u64 = 1_021;
 
 fn lines(files: &[Vec<u8>; 7]) -> (Verdict, String, String) {
     let lent: [&[u8]; 7] = [
@@ -23,17 +27,38 @@ fn lines(files: &[Vec<u8>; 7]) -> (Verdict, String, String) {
 
 #[test]
 fn places_on_the_same_hints() {
-    held(PERIOD);
+    held(PERIOD, 600);
 }
 
-/// Not only on the same hints: with one number, so that 54 reads every node again.
+/// Not only on the same hints: with one number, so that 54 compares places exactly.
 #[test]
 fn places_with_the_same_number() {
-    held(WHOLE);
+    held(WHOLE, 200);
+    held(WHOLE, 600);
 }
 
-fn held(period: u64) {
-    let many = 200;
+/// Ids that start at one place of the shorter table and go on alike: of 32 tries none is left for the 33rd.
+#[test]
+fn ids_on_the_same_hints_of_a_short_table() {
+    for many in [32, 33, 60] {
+        // an id's key is its successor; keys of one multiple of 32,749 step alike
+        let ids: Vec<u64> = (0..many)
+            .map(|i| (1 + i / 30 * 32_719) * 32_749 + i % 30 * FEW)
+            .map(|key| key + FEW - key % FEW - 1)
+            .collect();
+        let (verdict, ours, theirs) = lines(&points(&ids));
+        assert_eq!(ours, theirs);
+        assert_eq!(verdict, Verdict::Accepted([1, ids.len(), 0, 0, 0, 0, 0]));
+        let mut twins = ids;
+        let last = twins.len() - 1;
+        twins[last] = twins[last / 2];
+        let (_, ours, theirs) = lines(&points(&twins));
+        assert_eq!(ours, theirs);
+        assert_eq!(ours, format!("NO 30 2 {:05} 01", last + 1));
+    }
+}
+
+fn held(period: u64, many: usize) {
     let places = falling_together(many, period);
     let (verdict, ours, theirs) = lines(&delivery(&places));
     assert_eq!(ours, theirs);

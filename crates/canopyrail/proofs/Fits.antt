@@ -26,7 +26,7 @@ use Rattle.record.proofs.TableLaws.{sane}
 use Rattle.keys.specs.Groups.{brokenBy}
 use Rattle.keys.specs.Rules.{keysBroken}
 use Rattle.topology.specs.Rules.{topologyBroken}
-use Rattle.judge.specs.Verdict.{judged, verdictOf}
+use Rattle.judge.specs.Verdict.{judged}
 use Rattle.judge.specs.Broken.{placeAt}
 use Rattle.judge.specs.machinery.Searched.{brokenIn}
 use Rattle.judge.proofs.Plain.{LeastBroken, FoundFirst}

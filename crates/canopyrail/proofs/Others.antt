@@ -39,7 +39,7 @@ use Rattle.record.specs.Breaks.{numberOf, tenReasons, twentyReasons, there, tes
 use Rattle.keys.specs.Groups.{brokenBy}
 use Rattle.keys.specs.Rules.{orFirst, firstWith, refersToCatalogue, mistyped, typedIn, breaks41, keyTests, keyReasons, keysBroken}
 use Rattle.topology.specs.Rules.{fiftyReasons, topologyBroken}
-use Rattle.judge.specs.Verdict.{judged, verdictOf}
+use Rattle.judge.specs.Verdict.{judged}
 use Rattle.judge.specs.Broken.{reasonOf, placeAt}
 use Rattle.judge.specs.machinery.Searched.{brokenIn}
 use Rattle.judge.proofs.Plain.{LeastBroken, FoundFirst}

@@ -37,18 +37,10 @@ module _ {p : ℕ → Bool} {n i : ℕ} (s : Passed p n i) where
     pub any-end : n ≤ i → false ≡ any p m
     any-end u = sym (any-none p m (index-end p m e (s .under) u (s .past)))
 
--- A SEARCH'S ANSWER says whether there is one
-found-some : {j : ℕ} (o : Option ℕ) → foundOf o ≡ At j → isSome o ≡ true
-found-some none e = let z : _≡_ {A = ℕ} 0 1 = cc in absurd (omega arith)
-found-some (some k) e = refl
-
 found-none : (o : Option ℕ) → foundOf o ≡ Nothing → isSome o ≡ false
 found-none none e = refl
 found-none (some k) e = let z : _≡_ {A = ℕ} 0 1 = cc in absurd (omega arith)
 
 module _ (p : ℕ → Bool) (n : ℕ) {f : Found} (e : f ≡ foundOf (firstIndex p n)) where
-  pub any-of-found : {j : ℕ} → f ≡ At j → any p n ≡ true
-  any-of-found q = any-index p n ∙ found-some (firstIndex p n) (sym e ∙ q)
-
   pub any-of-nothing : f ≡ Nothing → any p n ≡ false
   any-of-nothing q = any-index p n ∙ found-none (firstIndex p n) (sym e ∙ q)

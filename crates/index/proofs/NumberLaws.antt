@@ -112,10 +112,6 @@ pub seen-at : (numbers seen : List ℕ) (i : ℕ) → getD numbers i 0 < room �
 unfolding Seen
 seen-at numbers seen i l s = s .1 (getD numbers i 0) l
 
-pub seen-long : (numbers seen : List ℕ) (i : ℕ) → Seen numbers seen i → length seen ≡ room
-unfolding Seen
-seen-long numbers seen i s = s .0
-
 -- KEYS THAT OCCUR TWICE: by their numbers,
 pub repeats-stand :
     {before marks keys numbers : List ℕ} {n : ℕ} → Stands keys numbers n → Marked before marks (λ i. names (listed numbers) i (getD numbers i 0)) n

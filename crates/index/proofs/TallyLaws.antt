@@ -4,19 +4,14 @@
 use Prim.Native.Nat.{ℕ, zero, suc, _+_, _-_, _*_, _<_, _≤_}
 use mathlib.Core.Bool.{Bool, true, false, _&&_}
 use mathlib.Core.List.{List}
-use mathlib.Core.Logic.{⊎-elim}
-use mathlib.Core.Option.{Option, none, some}
 use mathlib.Core.Path.{_≡_, refl, sym, ap, _∙_}
-use native.Mathlib.Nat.{le-of-suc-le-suc, not-suc-le-zero, eq-or-lt-of-le}
-use native.Mathlib.Numerals.{add-one}
 use native.Mathlib.Omega.{arith}
 use lib.Dec.{leb}
-use borrow.Author.Tests.{leb-true, leb-false}
 use Rattle.laws.specs.Row.{pick}
 use Rattle.laws.specs.Find.{firstIndex}
 use Rattle.laws.specs.Count.{bit, howMany}
-use Rattle.laws.proofs.FindLaws.{true-false, index-none, index-none-at, index-some-at}
-use Rattle.laws.proofs.CountLaws.{count-none, count-same, count-more}
+use Rattle.laws.proofs.FindLaws.{index-none}
+use Rattle.laws.proofs.CountLaws.{count-none, count-same}
 use Rattle.index.specs.Keys.{foundOf}
 use Rattle.index.specs.Marks.{Marked, isMarked}
 use Rattle.index.specs.Tally.{noTally, withCell, tallyOf}

@@ -1,6 +1,6 @@
 -- The laws of exact look-ups (specs/Way.antt): what halving gives, by the order alone; that hints which find every key find what is there.
 -- Assumes nothing.
-use Prim.Native.Nat.{ℕ, _+_, _-_, _<_, _≤_}
+use Prim.Native.Nat.{ℕ, _-_, _<_, _≤_}
 use mathlib.Core.Bool.{Bool, true, false}
 use mathlib.Core.List.{List}
 use mathlib.Core.Logic.{⊎-elim}
@@ -16,7 +16,7 @@ use Rattle.laws.proofs.FindLaws.{true-false, index-none, index-here}
 use Rattle.index.specs.Keys.{listed, firstDuplicate, room}
 use Rattle.index.specs.Order.{keyAt, Index}
 use Rattle.index.specs.Look.{Bracket, Sought}
-use Rattle.index.specs.Hint.{slotOf, guessOf, Guessed}
+use Rattle.index.specs.Hint.{guessOf, Guessed}
 use Rattle.index.specs.Way.{uptoOf, lastAt, findOf, isFound, Complete, lookOf, Ready}
 use Rattle.index.specs.declared.Found.{Found}
 use Rattle.index.specs.declared.Found.the-variants.{At, Nothing}

@@ -10,10 +10,10 @@ use mathlib.Core.Logic.{_⊎_, ⊎-elim}
 use native.Mathlib.Nat.{mod-lt}
 use native.Mathlib.Omega.{arith}
 use lib.Dec.{leb, eqb}
-use lib.ListN.{length, getD}
+use lib.ListN.{getD}
 use borrow.Author.Tests.{leb-true, lt-ltb, le-ltb, eqb-true, eq-eqb, not-false}
-use Rattle.laws.specs.Find.{hit, any}
-use Rattle.laws.specs.Nest.{Nest, leaf, node, run, before}
+use Rattle.laws.specs.Find.{any}
+use Rattle.laws.specs.Nest.{run, before}
 use Rattle.laws.specs.Row.{pick}
 use Rattle.laws.proofs.FindLaws.{true-false, some-none, hit-some, any-no}
 use Rattle.laws.proofs.NestLaws.{at, at-within, at-node, at-leaf, run-none, run-some, before-split, before-total}
@@ -35,7 +35,7 @@ use Rattle.keys.specs.Groups.{brokenBy}
 use Rattle.keys.specs.Rules.{keyTests, keysBroken}
 use Rattle.topology.specs.Rules.{topologyBroken}
 use Rattle.judge.specs.declared.judge.Verdict.{Verdict}
-use Rattle.judge.specs.Broken.{groups, isThere, saidTests, testsOf, reasonOf, holds, IsBroken, breaksIn, atWhich, breaks, placeAt, First, Finds, Judges}
+use Rattle.judge.specs.Broken.{groups, isThere, saidTests, testsOf, reasonOf, holds, breaksIn, atWhich, breaks, placeAt, First, Finds, Judges}
 use Rattle.judge.specs.Verdict.{judged, countsOf, verdictOf}
 use Rattle.judge.specs.machinery.Searched.{searched, brokenIn}
 use Rattle.judge.proofs.SaidLaws.{under-pick, and-none}

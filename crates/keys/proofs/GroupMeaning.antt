@@ -185,10 +185,3 @@ module _ (g : Kind → Finding) where
       let r = some-at _ (fileCount + 1) (finding-some _ e) in
       let w = in-file (r .0) (whichOf (r .0)) refl (r .1) (r .2) in
       (w .0, w .2, λ k' l. break-none (g k') (sym (at-own k') ∙ none-at _ (r .0) (r .3) (omega (arith, w .1))))
-
-  pub fine-over : ((k : Kind) → g k ≡ Fine) → overFiles g ≡ Fine
-  fine-over all = go (overFiles g) refl
-    where
-      go : (v : Finding) → overFiles g ≡ v → v ≡ Fine
-      go Fine e = refl
-      go (Broken b) e = let r = over-broken e in sym (r .1) ∙ all (r .0)

@@ -33,10 +33,6 @@ pub record Fines (g : ℕ → Finding) (m n : ℕ) : Type 0 where
 pub fines-start : (g : ℕ → Finding) (m : ℕ) → Fines g m 0
 fines-start g m = record { within = omega arith; past = first-start _ }
 
-pub fines-from : {g : ℕ → Finding} {m n : ℕ} → n ≤ m → firstOf (λ i. breakIn (g i)) n ≡ none → Fines g m n
-unfolding breakAt
-fines-from l e = record { within = l; past = e }
-
 module _ {g : ℕ → Finding} {m n : ℕ} (s : Fines g m n) where
   pub fines-end : m ≤ n → Fine ≡ findingOf (firstOf (λ i. breakIn (g i)) m)
   unfolding breakAt

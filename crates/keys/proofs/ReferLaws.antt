@@ -12,7 +12,7 @@ use lib.Dec.{eqb}
 use lib.ListN.{length, getD}
 use borrow.Author.Tests.{eq-eqb, ne-eqb}
 use Rattle.laws.specs.Find.{firstIndex, names}
-use Rattle.laws.proofs.FindLaws.{true-false, index-same, index-none, index-none-at, any-same, any-true, any-false, any-no}
+use Rattle.laws.proofs.FindLaws.{true-false, index-none, index-none-at, any-same, any-true, any-false, any-no}
 use Rattle.index.specs.Keys.{listed, firstDuplicate}
 use Rattle.index.specs.Look.{Sought}
 use Rattle.index.specs.declared.tally.Tally.{Tally}
@@ -50,10 +50,6 @@ none-dangles key n refs m known = index-none _ m (λ i l. go i l (ℕ-discrete (
 
 -- A COLUMN in an array: a search reads the array as the column
 module _ {l : List ℕ} {key : ℕ → ℕ} {m n : ℕ} (fills : Fills l key m n) where
-  pub index-filled : (p q : ℕ → Bool) → ((x : ℕ) → p x ≡ q x) → firstIndex (λ i. p (getD l i 0)) n ≡ firstIndex (λ i. q (key i)) m
-  index-filled p q same =
-      rw (fills .count) (index-same _ _ m (λ k u. same (getD l k 0) ∙ ap q (fills .holds k u)))
-
   -- and so does a cell of a tally
   pub one-filled :
       {t r : Tally} {c : ℕ} (p q : ℕ → Bool) → ((x : ℕ) → p x ≡ q x) → OneMore t (λ i. p (getD l i 0)) n c r → OneMore t (λ i. q (key i)) m c r
@@ -71,13 +67,6 @@ module _ {l : List ℕ} {key : ℕ → ℕ} {m n : ℕ} (fills : Fills l key m n
   pub dangles-filled : (x : ℕ) → dangles (listed l) n x ≡ dangles key m x
   unfolding dangles
   dangles-filled x = rw (names-column x)
-
--- names and keys in arrays: where each name is missing or known, none of the column dangles
-pub none-dangles-filled :
-    {refs keys : List ℕ} {column key : ℕ → ℕ} {a b m n : ℕ} → Fills refs column a m → Fills keys key b n
-    → ((i : ℕ) → i < m → (getD refs i 0 ≡ 0 → ⊥) → names (listed keys) n (getD refs i 0) ≡ true) → firstIndex (λ i. dangles key b (column i)) a ≡ none
-none-dangles-filled {refs} {keys} {m = m} {n} names-in keys-in known =
-    sym (index-filled names-in _ _ (dangles-filled keys-in)) ∙ none-dangles (listed keys) n refs m known
 
 -- KEYS THAT ARE APART: no two records have one
 apart-one : (key : ℕ → ℕ) (n : ℕ) → firstDuplicate key n ≡ none → {i j : ℕ} → i < j → j < n → key i ≡ key j → ⊥

@@ -1,4 +1,3 @@
 pub mod Cells
 pub mod Lent
-pub mod Marks
 pub mod Types

@@ -22,8 +22,6 @@ ghost use mathlib.Core.Bool.{not};
 ghost use Prim.Native.Nat.{ℕ, _≤_, _<_};
 ghost use lib.Dec.{eqb};
 ghost use lib.ListN.{length, getD};
-ghost use Rattle.laws.specs.Find.{firstIndex};
-ghost use Rattle.index.specs.Keys.{foundOf};
 ghost use Rattle.index.specs.Marks.{Marked};
 ghost use Rattle.index.specs.Way.{Ready};
 ghost use Rattle.record.specs.Table.{limit};
@@ -309,19 +307,4 @@ pub(crate) fn tally_codes<'a, 'b>(
         types,
         marks,
     )
-}
-
-// The first record whose field is there at all.
-pub fn first_present(s: &[u8], k: Kind, f: usize) -> Found
-    ensures { λ r. ⌜ r ≡ foundOf (firstIndex (λ i. not (eqb (nameAt k (tableOf (now (s .entry)) k) i f) 0)) (tableOf (now (s .entry)) k .count)) ⌝ }
-{
-    let n = rows(s, k);
-    let mut i = 0;
-    while i < n {
-        if name(s, k, i, f) != 0 {
-            return Found::At(i);
-        }
-        i += 1;
-    }
-    Found::Nothing
 }

@@ -14,10 +14,10 @@ use Rattle.record.specs.declared.kind.Kind.{Kind}
 use Rattle.record.specs.declared.kind.Form.{Form}
 use Rattle.record.specs.Table.{limit, lengthOf, keysOf, formAt, offsetAt, widthAt}
 use Rattle.record.specs.Cut.{countOf, recordOf, textOf}
-use Rattle.record.specs.Says.{saidAs, saidIn, tableOf, numberIn, keyIn, letterIn, placeIn}
+use Rattle.record.specs.Says.{saidAs, saidIn, tableOf, numberIn, keyIn, placeIn}
 use Rattle.record.proofs.TableLaws.{sane}
 use Rattle.record.proofs.CutLaws.{record-field}
-use Rattle.record.proofs.SaysLaws.{number-before, key-before, letter-before}
+use Rattle.record.proofs.SaysLaws.{number-before, key-before}
 use Rattle.record.specs.Names.{nameAt, keyOf}
 use Rattle.record.specs.machinery.Columns.{Fills, ReadInto}
 use Rattle.record.proofs.NameLaws.{key-name}
@@ -105,10 +105,6 @@ module _ (s : List ℕ) (k : Kind) (i f : ℕ) {form : Form} {t : List ℕ} (p :
   pub number-cut : {x : ℕ} → x ≡ numberIn (saidAs form t []) → x ≡ numberIn (tableOf s k .says i f)
   unfolding saidIn
   number-cut e = e ∙ rw (p, q) (number-before _ _ _ _)
-
-  pub letter-cut : {x : ℕ} → x ≡ letterIn (saidAs form t []) → x ≡ letterIn (tableOf s k .says i f)
-  unfolding saidIn
-  letter-cut e = e ∙ rw (p, q) (letter-before _ _ _ _)
 
   pub place-cut : {b : List ℕ} → b ≡ textOf (recordOf s k i) k (f - 1) → {x : ℕ} → x ≡ placeIn (saidAs form t b) → x ≡ placeIn (tableOf s k .says i f)
   unfolding saidIn

@@ -1,8 +1,7 @@
-// Columns of names, keys, places and letters, read once into lent room. Where the room is too short for the file's records, none is read.
+// Columns of names, keys and places, read once into lent room. Where the room is too short for the file's records, none is read.
 //
 // Where a field stands in its record is looked up once for a column, and not once for a record: `at` is where the record in hand starts.
 use crate::columns::key_in;
-use crate::columns::letter_in;
 use crate::columns::number_in;
 use crate::columns::place_in;
 use crate::columns::rows;
@@ -12,7 +11,7 @@ use crate::names::name;
 ghost use mathlib.Core.Path.{_≡_};
 ghost use Prim.Native.Nat.{ℕ, _-_, _^_};
 ghost use Rattle.laws.specs.Row.{Narrow};
-ghost use Rattle.record.specs.Says.{tableOf, keyIn, placeIn, letterIn};
+ghost use Rattle.record.specs.Says.{tableOf, keyIn, placeIn};
 ghost use Rattle.record.specs.Table.{keysOf};
 ghost use Rattle.record.specs.Names.{nameAt, keyOf};
 ghost use Rattle.record.specs.machinery.Columns.{ReadInto};
@@ -112,27 +111,6 @@ pub fn fill_places(s: &[u8], k: Kind, f: usize, out: &mut [u64]) -> usize
     while i < n {
         let b = part(s, at + sign, sign_width);
         out[i] = place_in(form, part(s, at + offset, width), b);
-        at += k.length();
-        i += 1;
-    }
-    n
-}
-
-// The first byte of field f's text in each record of the file.
-pub fn fill_letters(s: &[u8], k: Kind, f: usize, out: &mut [u64]) -> usize
-    ensures { λ r. ⌜ ReadInto (now (out .entry)) (now (out .exit)) (λ i. letterIn (tableOf (now (s .entry)) k .says i f)) (tableOf (now (s .entry)) k .count) r ⌝ }
-{
-    let n = rows(s, k);
-    if out.len() < n {
-        return 0;
-    }
-    let form = k.form(f);
-    let offset = k.offset(f);
-    let width = k.width(f);
-    let mut at = 0;
-    let mut i = 0;
-    while i < n {
-        out[i] = letter_in(form, part(s, at + offset, width)) as u64;
         at += k.length();
         i += 1;
     }

@@ -1,22 +1,18 @@
 -- The laws of line ends (specs/Rules.antt, 52, 53, 55 and 59): the highest vertex of a line, and where an end or a point object
 -- meets its node.
 -- Assumes nothing.
-use Prim.Native.Nat.{ℕ, zero, suc, _<_, _≤_, _^_, max}
+use Prim.Native.Nat.{ℕ, zero, suc, _<_, _≤_, _^_}
 use mathlib.Core.Bool.{Bool, true, false, not, _&&_}
 use mathlib.Core.List.{List}
 use mathlib.Core.Option.{none}
-use mathlib.Core.Path.{_≡_, refl, sym, subst, ap, ap₂, _∙_}
-use mathlib.Core.Logic.{_⊎_, ⊎-elim}
-use native.Mathlib.Nat.{max-le, le-max-left, le-max-right, le-trans, eq-or-lt-of-le, le-of-suc-le-suc}
+use mathlib.Core.Path.{_≡_, refl, sym, ap, ap₂, _∙_}
 use native.Mathlib.Omega.{arith}
 use lib.Dec.{eqb}
-use lib.ListN.{getD}
-use borrow.Author.Tests.{eq-eqb, ne-eqb, eqb-true, eqb-false}
-use Rattle.laws.proofs.RowLaws.{picked}
+use borrow.Author.Tests.{eq-eqb, ne-eqb}
 use Rattle.laws.specs.Find.{any}
 use Rattle.laws.proofs.FindLaws.{any-true}
 use Rattle.index.specs.Keys.{listed, firstDuplicate}
-use Rattle.index.specs.Look.{Sought, keyLine, HighestIn}
+use Rattle.index.specs.Look.{Sought}
 use Rattle.index.specs.declared.Found.{Found}
 use Rattle.index.specs.declared.Found.the-variants.{At, Nothing}
 use Rattle.index.proofs.LookLaws.{sought-record, sought-yes, sought-none}

@@ -7,7 +7,6 @@ use mathlib.Core.List.{List}
 use mathlib.Core.Option.{none}
 use mathlib.Core.Path.{_≡_, refl, sym, _∙_}
 use mathlib.Core.Logic.{⊎-elim}
-use native.Mathlib.Nat.{min-le-left, le-trans}
 use native.Mathlib.Omega.{arith}
 use lib.Dec.{eqb}
 use lib.ListN.{length, getD, set}
@@ -22,11 +21,7 @@ use Rattle.index.specs.declared.Found.{Found}
 use Rattle.index.specs.declared.Found.the-variants.{At, Nothing}
 use Rattle.index.proofs.OrderLaws.{less-or}
 use Rattle.index.proofs.LookLaws.{sought-record, sought-none}
-use Rattle.record.specs.declared.kind.Kind.{Kind}
-use Rattle.record.specs.Table.{limit}
-use Rattle.record.specs.Cut.{countOf}
-use Rattle.record.specs.Says.{tableOf}
-use Rattle.record.specs.machinery.Columns.{Fills, ReadInto}
+use Rattle.record.specs.machinery.Columns.{Fills}
 use Rattle.topology.specs.machinery.Lent.{Holds}
 
 -- A LOOP that fills: nothing is in yet, one more is, all are

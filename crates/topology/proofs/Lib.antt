@@ -1,4 +1,3 @@
-pub mod PlaceLaws
 pub mod LentLaws
 pub mod TopLaws
 pub mod OrderRules

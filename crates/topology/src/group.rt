@@ -98,7 +98,17 @@ fn tally_ends<'a, 'b>(
     let vertice = file_of(files, Kind::Vertice);
     let nodo = file_of(files, Kind::Nodo);
     let r = rows(tramo, Kind::Tramo);
-    mark_endless(tramo, keys, lines, line_order, line_hints, line_way, tops, n, marks);
+    mark_endless(
+        tramo,
+        keys,
+        lines,
+        line_order,
+        line_hints,
+        line_way,
+        tops,
+        n,
+        marks,
+    );
     let t = with_marks(no_tally(), marks, r, 49);
     mark_apart(
         End::Start,

@@ -7,6 +7,8 @@ pub const WHOLE: u64 = 68_719_476_731;
 const FACTOR: u64 = 4_093_082_899;
 const PRIME: u64 = 8_589_934_583;
 
+const CODE: &[u8] = b"POZO";
+
 /// X and Y of nodes without Z whose numbers are all equal by the period.
 pub fn falling_together(many: usize, period: u64) -> Vec<(i64, i64)> {
     let mut places = Vec::new();
@@ -34,31 +36,43 @@ fn record(file: usize, values: &[Value]) -> Vec<u8> {
     room
 }
 
+/// The values of a point object at a place, and the catalogue that has its code.
+fn point(id: u64, x: i64, y: i64) -> Vec<Value> {
+    let mut point = vec![Value::Missing; 13];
+    point[0] = Value::Number(id);
+    point[3] = Value::Text(CODE.to_vec());
+    point[8] = Value::Coordinate(x);
+    point[10] = Value::Coordinate(y);
+    point
+}
+
+fn catalogue() -> Vec<u8> {
+    let (none, code) = (Value::Missing, Value::Text(CODE.to_vec()));
+    record(1, &[code, Value::Text(b"P".to_vec()), none.clone(), none])
+}
+
+/// Point objects with these ids, without nodes.
+#[allow(dead_code)] // the benchmarks don't use it
+pub fn points(ids: &[u64]) -> [Vec<u8>; FILES] {
+    let mut files: [Vec<u8>; FILES] = Default::default();
+    files[0] = catalogue();
+    for id in ids {
+        files[1].extend(record(2, &point(*id, 1, 1)));
+    }
+    files
+}
+
 /// A point object on each node, and nothing else.
 pub fn delivery(places: &[(i64, i64)]) -> [Vec<u8>; FILES] {
-    let none = Value::Missing;
-    let code = Value::Text(b"POZO".to_vec());
     let mut files: [Vec<u8>; FILES] = Default::default();
-    files[0] = record(
-        1,
-        &[
-            code.clone(),
-            Value::Text(b"P".to_vec()),
-            none.clone(),
-            none.clone(),
-        ],
-    );
+    files[0] = catalogue();
     for (place, (x, y)) in places.iter().enumerate() {
-        let id = Value::Number(place as u64 + 1);
-        let mut point = vec![none.clone(); 13];
-        point[0] = id.clone();
-        point[2] = id.clone();
-        point[3] = code.clone();
-        point[8] = Value::Coordinate(*x);
-        point[10] = Value::Coordinate(*y);
-        files[1].extend(record(2, &point));
-        let mut node = vec![none.clone(); 8];
-        node[0] = id;
+        let id = place as u64 + 1;
+        let mut named = point(id, *x, *y);
+        named[2] = Value::Number(id);
+        files[1].extend(record(2, &named));
+        let mut node = vec![Value::Missing; 8];
+        node[0] = Value::Number(id);
         node[3] = Value::Coordinate(*x);
         node[5] = Value::Coordinate(*y);
         files[6].extend(record(7, &node));

@@ -8,7 +8,6 @@ use Rattle.record.specs.declared.kind.Kind.{Kind}
 use Rattle.record.specs.declared.kind.Which.{Which}
 use Rattle.record.specs.declared.kind.Which.the-variants.{NoFile, File}
 use Rattle.record.specs.Table.{limit}
-use Rattle.record.specs.Says.{Table}
 use Rattle.record.specs.Files.{Delivery}
 
 -- a column of n numbers, at most the limit, read into lent room: r are read, all of them or, where the room is too short, none; the rest

@@ -1,6 +1,6 @@
 -- Machinery: which records are named, by a table of their ids. No promise cites this file.
 -- Assumes nothing.
-use Prim.Native.Nat.{ℕ, _<_, _≤_}
+use Prim.Native.Nat.{ℕ, _<_}
 use mathlib.Core.Bool.{Bool, true, not, _&&_, _||_}
 use mathlib.Core.List.{List}
 use mathlib.Core.Path.{_≡_}
@@ -12,7 +12,6 @@ use Rattle.index.specs.Way.{lookOf}
 use Rattle.index.specs.declared.Found.{Found}
 use Rattle.index.specs.declared.Found.the-variants.{At, Nothing}
 use Rattle.record.specs.declared.kind.Kind.the-variants.{ObPun}
-use Rattle.record.specs.Table.{limit}
 use Rattle.record.specs.Says.{Table}
 use Rattle.record.specs.Names.{nameAt}
 use Rattle.topology.specs.Rules.{tramoStart, tramoEnd}

@@ -1,6 +1,5 @@
 -- `index::numbers::mark_repeats` meets its contract. Equal keys have one number; keys that are apart are none an earlier one.
 -- Assumes nothing.
-use Rattle.index.specs.Keys.{room}
 use Rattle.index.proofs.NumberLaws.{repeats-stand, repeats-none}
 use borrow.Author.Needs.{needs}
 use native.Mathlib.Omega.{arith}

@@ -7,7 +7,7 @@ use Rattle.laws.specs.Find.{names}
 use Rattle.index.specs.Keys.{listed}
 use Rattle.index.specs.Marks.{Marked}
 use Rattle.index.proofs.MarkLaws.{marked-start, marked-more, marked-end}
-use Rattle.index.proofs.NumberLaws.{Seen, seen-start, seen-more, seen-at, seen-long}
+use Rattle.index.proofs.NumberLaws.{Seen, seen-start, seen-more, seen-at}
 use borrow.Author.Needs.{needs}
 use native.Mathlib.Omega.{arith}
 use Rattle.index.proofs.numbers.mark_seen.Statement.{statement}

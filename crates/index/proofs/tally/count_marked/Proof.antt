@@ -1,13 +1,13 @@
 -- `index::tally::count_marked` meets its contract. The loop's invariant: `many` of the first `i` are marked.
 -- Assumes nothing.
 use Prim.Native.Nat.{_-_, _≤_}
-use mathlib.Core.Path.{_≡_, refl, sym, ap, _∙_}
+use mathlib.Core.Path.{_≡_, refl}
 use native.Mathlib.Omega.{arith}
 use borrow.Author.Needs.{needs}
 use Rattle.laws.specs.Count.{howMany}
 use Rattle.laws.proofs.CountLaws.{count-more}
 use Rattle.index.specs.Marks.{isMarked}
-use Rattle.index.proofs.TallyLaws.{count-most, count-end}
+use Rattle.index.proofs.TallyLaws.{count-end}
 use Rattle.index.proofs.tally.count_marked.Statement.{statement}
 use Rattle.index.proofs.tally.count_marked.Tie as tie
 

@@ -1,6 +1,5 @@
 -- `index::tally::with_marks` meets its contract: the first that is marked, and how many are.
 -- Assumes nothing.
-use native.Mathlib.Omega.{arith}
 use borrow.Author.Needs.{needs}
 use Rattle.index.proofs.tally.with_marks.Statement.{statement}
 use Rattle.index.proofs.tally.with_marks.Tie as tie

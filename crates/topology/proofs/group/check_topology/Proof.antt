@@ -1,3 +1,5 @@
+-- `topology::group::check_topology` meets its contract. The loop's invariant: the files before number `n` give nothing.
+-- Assumes nothing.
 use Prim.Native.Nat.{_+_, _-_}
 use mathlib.Core.List.{map}
 use denote.Ref.{now}

@@ -1,5 +1,6 @@
+-- `topology::group::tally_ends` meets its contract: 59's cell, then 52's and 53's, and no other of the file has a rule.
+-- Assumes nothing.
 use mathlib.Core.List.{map}
-use mathlib.Core.Path.{sym}
 use denote.Ref.{now}
 use native.Mathlib.Nat.{min-le-left}
 use Rattle.record.specs.declared.kind.Kind.the-variants.{Tramo}

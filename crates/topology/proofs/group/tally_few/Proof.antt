@@ -1,3 +1,5 @@
+-- `topology::group::tally_few` meets its contract: the arrays have room for a few records.
+-- Assumes nothing.
 use native.Mathlib.Omega.{arith}
 use borrow.Author.Needs.{needs}
 use Rattle.topology.proofs.group.tally_few.Statement.{statement}

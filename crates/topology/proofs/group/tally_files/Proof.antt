@@ -1,3 +1,5 @@
+-- `topology::group::tally_files` meets its contract: the columns that several rules read are filled and prepared.
+-- Assumes nothing.
 use native.Mathlib.Omega.{arith}
 use Rattle.record.specs.declared.kind.Kind.the-variants.{Vertice, Nodo}
 use Rattle.record.proofs.ColumnLaws.{read-fills}

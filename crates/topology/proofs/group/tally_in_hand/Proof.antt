@@ -1,3 +1,5 @@
+-- `topology::group::tally_in_hand` meets its contract: each file's tally, in the order of their numbers.
+-- Assumes nothing.
 use native.Mathlib.Omega.{arith}
 use Rattle.record.specs.declared.kind.Kind.the-variants.{ObPun, ObLin, Tramo, Vertice}
 use Rattle.topology.proofs.FiftyTallies.{catalogue-tally, texts-tally, all-tallies}

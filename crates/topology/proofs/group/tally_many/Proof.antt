@@ -1,3 +1,5 @@
+-- `topology::group::tally_many` meets its contract: the arrays have room for as many records as a file may have.
+-- Assumes nothing.
 use native.Mathlib.Omega.{arith}
 use native.Mathlib.Nat.{min-le-left}
 use borrow.Author.Needs.{needs}

@@ -1,3 +1,5 @@
+-- `topology::group::tally_objects` meets its contract: 57's cell, and no other of the file has a rule.
+-- Assumes nothing.
 use Rattle.topology.proofs.FiftyTallies.{none-little, objects-in}
 use native.Mathlib.Omega.{arith}
 use Rattle.record.proofs.ColumnLaws.{read-fills}

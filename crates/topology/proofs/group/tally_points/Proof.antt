@@ -1,6 +1,7 @@
+-- `topology::group::tally_points` meets its contract: 55's cell, and no other of the file has a rule.
+-- Assumes nothing.
 use Rattle.topology.proofs.FiftyTallies.{none-little, points-in}
 use native.Mathlib.Omega.{arith}
-use mathlib.Core.Path.{refl, _∙_}
 use borrow.Author.Needs.{needs}
 use Rattle.topology.proofs.group.tally_points.Statement.{statement}
 use Rattle.topology.proofs.group.tally_points.Tie as tie

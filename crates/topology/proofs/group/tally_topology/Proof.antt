@@ -1,3 +1,5 @@
+-- `topology::group::tally_topology` meets its contract, by how many records the files have.
+-- Assumes nothing.
 use borrow.Author.Needs.{needs}
 use Rattle.topology.proofs.group.tally_topology.Statement.{statement}
 use Rattle.topology.proofs.group.tally_topology.Tie as tie

@@ -1,7 +1,7 @@
 -- `topology::tops::fill_tops` meets its contract. The loop's invariant: what stands at the vertex of each line is the highest of the line's keys before `j`.
 -- Assumes nothing.
 use Prim.Native.Nat.{_-_, _≤_}
-use mathlib.Core.Path.{_≡_, refl}
+use mathlib.Core.Path.{_≡_}
 use native.Mathlib.Omega.{arith}
 use lib.ListN.{length, length-set}
 use Rattle.topology.specs.machinery.Tops.{Tops}
