@@ -92,7 +92,7 @@ static void load(const char *folder)
     }
 }
 
-/* Many nodes at one place: the second breaks 54. */
+/* Many nodes at one place, which nothing uses: the first breaks 56, and all others 54 as well. */
 static void load_nodes(void)
 {
     enum { NODES = 1000, LENGTH = 50 };
@@ -171,7 +171,7 @@ int main(int argc, char **argv)
         free(held[i]);
     load_nodes();
     judging = greater(judging, taken(judge));
-    if (canopyrail_reason(answered) != 54) {
+    if (canopyrail_reason(answered) != 56) {
         fprintf(stderr, "stack: many nodes at one place are told as %d\n", (int)canopyrail_reason(answered));
         return 2;
     }

@@ -54,7 +54,7 @@ fn ids_on_the_same_hints_of_a_short_table() {
         twins[last] = twins[last / 2];
         let (_, ours, theirs) = lines(&points(&twins));
         assert_eq!(ours, theirs);
-        assert_eq!(ours, format!("NO 30 2 {:05} 01", last + 1));
+        assert_eq!(ours, format!("NO 30 2 {:05} 01\n", last + 1));
     }
 }
 
