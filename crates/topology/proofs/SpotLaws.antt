@@ -37,14 +37,33 @@ positions-read k t {n = n} {m = m} small lx ly rx ry w =
     let e : n ≡ m = omega (arith, hx .count, hy .count) in
     record { x = hx; y = rw e hy; narrow = rw e w }
 
+-- counted as another column of the file is,
+pub positions-with :
+    {l xs ys : List ℕ} {key : ℕ → ℕ} {k : Kind} {t : Table} {n m : ℕ} → Fills l key (t .count) m → Positions xs ys k t n → Positions xs ys k t m
+positions-with {n = n} {m = m} h p =
+    let e : n ≡ m = omega (arith, p .x .count, h .count) in
+    rw e at p
+
 -- and of Z beside them
 pub nodes-read :
-    (t : Table) {xs ys zs₀ zs : List ℕ} {most n m : ℕ} → t .count ≤ most → most ≤ length zs₀ → Positions xs ys Nodo t n
-    → ReadInto zs₀ zs (zAt Nodo t) (t .count) m → Narrow zs m wide → Nodes xs ys zs t n
-nodes-read t {n = n} {m = m} small l p r w =
-    let h = read-fills (omega arith) r in
+    (t : Table) {xs ys zs₀ zs : List ℕ} {n m : ℕ} → n ≤ length zs₀ → Positions xs ys Nodo t n → ReadInto zs₀ zs (zAt Nodo t) (t .count) m
+    → Narrow zs m wide → Nodes xs ys zs t n
+nodes-read t {n = n} {m = m} l p r w =
+    let h = read-fills (omega (arith, p .x .count)) r in
     let e : n ≡ m = omega (arith, p .x .count, h .count) in
     record { plane = p; z = rw e h; narrow = rw e w }
+
+-- WHERE A RECORD IS, read in the columns: a record of the file stands in both, and is where they say
+module _ {xs ys : List ℕ} {k : Kind} {t : Table} {n : ℕ} (p : Positions xs ys k t n) {j : ℕ} (l : j < t .count) where
+  pub x-stands : j < length xs
+  x-stands = omega (arith, l, p .x .long)
+
+  pub y-stands : j < length ys
+  y-stands = omega (arith, l, p .y .long)
+
+  pub place-stands :
+      (x y : ℕ) {b : Bool} → (eqb (getD xs j 0) x && eqb (getD ys j 0) y) ≡ b → (eqb (xAt k t j) x && eqb (yAt k t j) y) ≡ b
+  place-stands x y h = rw (← p .x .holds j l, ← p .y .holds j l) h
 
 -- TWO COLUMNS AS ONE tell their pairs apart
 pairs-equal :

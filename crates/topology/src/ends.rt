@@ -31,6 +31,7 @@ ghost use Rattle.record.specs.Says.{tableOf};
 ghost use Rattle.record.specs.Names.{nameAt, keyOf};
 ghost use Rattle.topology.specs.machinery.Ends.{nodeField, endKey, apart};
 ghost use Rattle.record.specs.machinery.Columns.{Fills};
+ghost use Rattle.topology.specs.machinery.Places.{Positions};
 ghost use Rattle.topology.specs.machinery.Tops.{Tops};
 ghost use Rattle.topology.specs.Rules.{meets, elsewhere, highest, pointElsewhere, tramoLine, highestIn};
 
@@ -65,25 +66,27 @@ fn is_elsewhere<'a, 'b>(
     vertices: &'b [u16],
     way: Way,
     n: usize,
+    vx: &'b [u64],
+    vy: &'b [u64],
     nodo: &'a [u8],
     ids: &'b [u64],
     ranks: &'b [usize],
     nodes: &'b [u16],
     by: Way,
     m: usize,
+    nx: &'b [u64],
+    ny: &'b [u64],
     key: u64,
     wanted: u64,
 ) -> bool
-    requires { ⌜ Ready (now keys) (now order) (now vertices) n way × Fills (now keys) (keyOf Kind.Vertice (tableOf (now vertice) Kind.Vertice)) (tableOf (now vertice) Kind.Vertice .count) n × Ready (now ids) (now ranks) (now nodes) m by × Fills (now ids) (λ j. nameAt Kind.Nodo (tableOf (now nodo) Kind.Nodo) j 1) (tableOf (now nodo) Kind.Nodo .count) m ⌝ }
+    requires { ⌜ Ready (now keys) (now order) (now vertices) n way × Fills (now keys) (keyOf Kind.Vertice (tableOf (now vertice) Kind.Vertice)) (tableOf (now vertice) Kind.Vertice .count) n × Ready (now ids) (now ranks) (now nodes) m by × Fills (now ids) (λ j. nameAt Kind.Nodo (tableOf (now nodo) Kind.Nodo) j 1) (tableOf (now nodo) Kind.Nodo .count) m × Positions (now vx) (now vy) Kind.Vertice (tableOf (now vertice) Kind.Vertice) n × Positions (now nx) (now ny) Kind.Nodo (tableOf (now nodo) Kind.Nodo) m ⌝ }
     ensures { λ r. ⌜ r ≡ elsewhere (tableOf (now (vertice .entry)) Kind.Vertice) (tableOf (now (nodo .entry)) Kind.Nodo) key wanted ⌝ }
 {
     let found = look(keys, order, vertices, way, n, key);
     match found {
         Found::Nothing => false,
         Found::At(j) => {
-            let x = x_at(vertice, Kind::Vertice, j);
-            let y = y_at(vertice, Kind::Vertice, j);
-            if node_at(nodo, ids, ranks, nodes, by, m, wanted, x, y) {
+            if node_at(nodo, ids, ranks, nodes, by, m, nx, ny, wanted, vx[j], vy[j]) {
                 return false;
             }
             if way.apart {
@@ -144,6 +147,8 @@ pub(crate) fn mark_apart<'a, 'b>(
     vertices: &'b [u16],
     way: Way,
     n: usize,
+    vx: &'b [u64],
+    vy: &'b [u64],
     lines: &'b [u64],
     line_order: &'b [usize],
     line_hints: &'b [u16],
@@ -155,9 +160,11 @@ pub(crate) fn mark_apart<'a, 'b>(
     nodes: &'b [u16],
     by: Way,
     m: usize,
+    nx: &'b [u64],
+    ny: &'b [u64],
     marks: &mut [u8],
 )
-    requires { ⌜ Tops (now keys) (now lines) (now «line_order») (now «line_hints») (now tops) n «line_way» n × Ready (now keys) (now order) (now vertices) n way × Fills (now keys) (keyOf Kind.Vertice (tableOf (now vertice) Kind.Vertice)) (tableOf (now vertice) Kind.Vertice .count) n × Ready (now ids) (now ranks) (now nodes) m by × Fills (now ids) (λ j. nameAt Kind.Nodo (tableOf (now nodo) Kind.Nodo) j 1) (tableOf (now nodo) Kind.Nodo .count) m × (tableOf (now tramo) Kind.Tramo .count ≤ length (now marks)) ⌝ }
+    requires { ⌜ Tops (now keys) (now lines) (now «line_order») (now «line_hints») (now tops) n «line_way» n × Ready (now keys) (now order) (now vertices) n way × Fills (now keys) (keyOf Kind.Vertice (tableOf (now vertice) Kind.Vertice)) (tableOf (now vertice) Kind.Vertice .count) n × Ready (now ids) (now ranks) (now nodes) m by × Fills (now ids) (λ j. nameAt Kind.Nodo (tableOf (now nodo) Kind.Nodo) j 1) (tableOf (now nodo) Kind.Nodo .count) m × (tableOf (now tramo) Kind.Tramo .count ≤ length (now marks)) × Positions (now vx) (now vy) Kind.Vertice (tableOf (now vertice) Kind.Vertice) n × Positions (now nx) (now ny) Kind.Nodo (tableOf (now nodo) Kind.Nodo) m ⌝ }
     ensures { λ _. ⌜ Marked (now (marks .entry)) (now (marks .exit)) (apart end (tableOf (now (tramo .entry)) Kind.Tramo) (tableOf (now (vertice .entry)) Kind.Vertice) (tableOf (now (nodo .entry)) Kind.Nodo)) (tableOf (now (tramo .entry)) Kind.Tramo .count) ⌝ }
 {
     let t = rows(tramo, Kind::Tramo);
@@ -173,12 +180,16 @@ pub(crate) fn mark_apart<'a, 'b>(
             vertices,
             way,
             n,
+            vx,
+            vy,
             nodo,
             ids,
             ranks,
             nodes,
             by,
             m,
+            nx,
+            ny,
             key,
             wanted,
         ));
@@ -220,9 +231,11 @@ fn is_astray<'a, 'b>(
     nodes: &'b [u16],
     by: Way,
     m: usize,
+    nx: &'b [u64],
+    ny: &'b [u64],
     i: usize,
 ) -> bool
-    requires { ⌜ Ready (now ids) (now ranks) (now nodes) m by × Fills (now ids) (λ j. nameAt Kind.Nodo (tableOf (now nodo) Kind.Nodo) j 1) (tableOf (now nodo) Kind.Nodo .count) m ⌝ }
+    requires { ⌜ Ready (now ids) (now ranks) (now nodes) m by × Fills (now ids) (λ j. nameAt Kind.Nodo (tableOf (now nodo) Kind.Nodo) j 1) (tableOf (now nodo) Kind.Nodo .count) m × Positions (now nx) (now ny) Kind.Nodo (tableOf (now nodo) Kind.Nodo) m ⌝ }
     ensures { λ r. ⌜ r ≡ pointElsewhere (tableOf (now («ob_pun» .entry)) Kind.ObPun) (tableOf (now (nodo .entry)) Kind.Nodo) i ⌝ }
 {
     let wanted = name(ob_pun, Kind::ObPun, i, 3);
@@ -231,7 +244,7 @@ fn is_astray<'a, 'b>(
     }
     let x = x_at(ob_pun, Kind::ObPun, i);
     let y = y_at(ob_pun, Kind::ObPun, i);
-    !node_at(nodo, ids, ranks, nodes, by, m, wanted, x, y)
+    !node_at(nodo, ids, ranks, nodes, by, m, nx, ny, wanted, x, y)
 }
 
 // Marks the point objects that lie elsewhere than their node, with the nodes in hand.
@@ -243,15 +256,17 @@ pub(crate) fn mark_astray<'a, 'b>(
     nodes: &'b [u16],
     by: Way,
     m: usize,
+    nx: &'b [u64],
+    ny: &'b [u64],
     marks: &mut [u8],
 )
-    requires { ⌜ Ready (now ids) (now ranks) (now nodes) m by × Fills (now ids) (λ j. nameAt Kind.Nodo (tableOf (now nodo) Kind.Nodo) j 1) (tableOf (now nodo) Kind.Nodo .count) m × (tableOf (now «ob_pun») Kind.ObPun .count ≤ length (now marks)) ⌝ }
+    requires { ⌜ Ready (now ids) (now ranks) (now nodes) m by × Fills (now ids) (λ j. nameAt Kind.Nodo (tableOf (now nodo) Kind.Nodo) j 1) (tableOf (now nodo) Kind.Nodo .count) m × (tableOf (now «ob_pun») Kind.ObPun .count ≤ length (now marks)) × Positions (now nx) (now ny) Kind.Nodo (tableOf (now nodo) Kind.Nodo) m ⌝ }
     ensures { λ _. ⌜ Marked (now (marks .entry)) (now (marks .exit)) (pointElsewhere (tableOf (now («ob_pun» .entry)) Kind.ObPun) (tableOf (now (nodo .entry)) Kind.Nodo)) (tableOf (now («ob_pun» .entry)) Kind.ObPun .count) ⌝ }
 {
     let n = rows(ob_pun, Kind::ObPun);
     let mut i = 0;
     while i < n {
-        marks[i] = as_mark(is_astray(ob_pun, nodo, ids, ranks, nodes, by, m, i));
+        marks[i] = as_mark(is_astray(ob_pun, nodo, ids, ranks, nodes, by, m, nx, ny, i));
         i += 1;
     }
 }

@@ -1,7 +1,7 @@
 // The fifties: the tally of each file's rules, and the first break of a delivery.
 //
-// A rule's function only looks up and marks: the columns that several rules read, the keys of the vertices and the ids of the nodes, are
-// filled once, and all room is lent, so that a small delivery takes little of it.
+// A rule's function only looks up and marks: the columns that several rules read, the keys of the vertices, the ids of the nodes, and X and
+// Y of both, are filled once, and all room is lent, so that a small delivery takes little of it.
 use crate::ends::End;
 use crate::ends::mark_apart;
 use crate::ends::mark_astray;
@@ -11,6 +11,7 @@ use crate::nodes::mark_idle_objects;
 use crate::nodes::place_before;
 use crate::orders::mark_alone;
 use crate::orders::mark_gaps;
+use crate::spots::fill_positions;
 use crate::spots::mark_same_place;
 use crate::tops::prepare_tops;
 use index::FEW_HINTS;
@@ -48,7 +49,7 @@ ghost use Rattle.record.specs.Names.{nameAt, keyOf};
 ghost use Rattle.record.specs.machinery.Columns.{Fills};
 ghost use Rattle.keys.specs.Groups.{atFile};
 ghost use Rattle.topology.specs.machinery.Cells.{fiftyTally, fiftyTallies};
-ghost use Rattle.topology.specs.machinery.Places.{orIndex};
+ghost use Rattle.topology.specs.machinery.Places.{orIndex, Positions};
 ghost use Rattle.topology.specs.machinery.Tops.{Tops};
 ghost use Rattle.topology.specs.Rules.{reasonsAt, topologyIn, topologyFinding};
 
@@ -71,7 +72,7 @@ fn tally_vertices<'a, 'b>(
     with_marks(t, marks, n, 21)
 }
 
-// 59, 52 and 53, of the tramos, with the vertices, the highest of each line and the nodes in hand.
+// 59, 52 and 53, of the tramos, with the vertices, the highest of each line and the nodes in hand; X and Y are vx, vy and nx, ny.
 fn tally_ends<'a, 'b>(
     files: [&'a [u8]; FILES],
     keys: &'b [u64],
@@ -79,6 +80,8 @@ fn tally_ends<'a, 'b>(
     vertices: &'b [u16],
     way: Way,
     n: usize,
+    vx: &'b [u64],
+    vy: &'b [u64],
     lines: &'b [u64],
     line_order: &'b [usize],
     line_hints: &'b [u16],
@@ -89,9 +92,11 @@ fn tally_ends<'a, 'b>(
     nodes: &'b [u16],
     by: Way,
     m: usize,
+    nx: &'b [u64],
+    ny: &'b [u64],
     marks: &mut [u8],
 ) -> Tally
-    requires { ⌜ Tops (now keys) (now lines) (now «line_order») (now «line_hints») (now tops) n «line_way» n × Ready (now keys) (now order) (now vertices) n way × Fills (now keys) (keyOf Kind.Vertice (deliveryOf (filesOf (map now files)) Kind.Vertice)) (deliveryOf (filesOf (map now files)) Kind.Vertice .count) n × Ready (now ids) (now ranks) (now nodes) m by × Fills (now ids) (λ j. nameAt Kind.Nodo (deliveryOf (filesOf (map now files)) Kind.Nodo) j 1) (deliveryOf (filesOf (map now files)) Kind.Nodo .count) m × (deliveryOf (filesOf (map now files)) Kind.Tramo .count ≤ length (now marks)) ⌝ }
+    requires { ⌜ Tops (now keys) (now lines) (now «line_order») (now «line_hints») (now tops) n «line_way» n × Ready (now keys) (now order) (now vertices) n way × Fills (now keys) (keyOf Kind.Vertice (deliveryOf (filesOf (map now files)) Kind.Vertice)) (deliveryOf (filesOf (map now files)) Kind.Vertice .count) n × Ready (now ids) (now ranks) (now nodes) m by × Fills (now ids) (λ j. nameAt Kind.Nodo (deliveryOf (filesOf (map now files)) Kind.Nodo) j 1) (deliveryOf (filesOf (map now files)) Kind.Nodo .count) m × (deliveryOf (filesOf (map now files)) Kind.Tramo .count ≤ length (now marks)) × Positions (now vx) (now vy) Kind.Vertice (deliveryOf (filesOf (map now files)) Kind.Vertice) n × Positions (now nx) (now ny) Kind.Nodo (deliveryOf (filesOf (map now files)) Kind.Nodo) m ⌝ }
     ensures { λ r. ⌜ r ≡ fiftyTally (deliveryOf (filesOf (map now (files .entry)))) Kind.Tramo ⌝ }
 {
     let tramo = file_of(files, Kind::Tramo);
@@ -119,6 +124,8 @@ fn tally_ends<'a, 'b>(
         vertices,
         way,
         n,
+        vx,
+        vy,
         lines,
         line_order,
         line_hints,
@@ -130,6 +137,8 @@ fn tally_ends<'a, 'b>(
         nodes,
         by,
         m,
+        nx,
+        ny,
         marks,
     );
     let u = with_marks(t, marks, r, 62);
@@ -142,6 +151,8 @@ fn tally_ends<'a, 'b>(
         vertices,
         way,
         n,
+        vx,
+        vy,
         lines,
         line_order,
         line_hints,
@@ -153,12 +164,14 @@ fn tally_ends<'a, 'b>(
         nodes,
         by,
         m,
+        nx,
+        ny,
         marks,
     );
     with_marks(u, marks, r, 73)
 }
 
-// The same with room for the lines and their highest vertices.
+// The same with room for the lines, their highest vertices, and X and Y of the vertices.
 fn tally_tramos<'a, 'b>(
     files: [&'a [u8]; FILES],
     keys: &'b [u64],
@@ -171,16 +184,21 @@ fn tally_tramos<'a, 'b>(
     nodes: &'b [u16],
     by: Way,
     m: usize,
+    nx: &'b [u64],
+    ny: &'b [u64],
     lines: &mut [u64],
     line_hints: &mut [u16],
     line_order: &mut [usize],
     tops: &mut [u64],
+    vx: &mut [u64],
+    vy: &mut [u64],
     marks: &mut [u8],
 ) -> Tally
-    requires { ⌜ Ready (now keys) (now order) (now vertices) n way × Fills (now keys) (keyOf Kind.Vertice (deliveryOf (filesOf (map now files)) Kind.Vertice)) (deliveryOf (filesOf (map now files)) Kind.Vertice .count) n × Ready (now ids) (now ranks) (now nodes) m by × Fills (now ids) (λ j. nameAt Kind.Nodo (deliveryOf (filesOf (map now files)) Kind.Nodo) j 1) (deliveryOf (filesOf (map now files)) Kind.Nodo .count) m × (n ≤ length (now lines)) × (n ≤ length (now «line_order»)) × (n ≤ length (now tops)) × (deliveryOf (filesOf (map now files)) Kind.Tramo .count ≤ length (now marks)) ⌝ }
+    requires { ⌜ Ready (now keys) (now order) (now vertices) n way × Fills (now keys) (keyOf Kind.Vertice (deliveryOf (filesOf (map now files)) Kind.Vertice)) (deliveryOf (filesOf (map now files)) Kind.Vertice .count) n × Ready (now ids) (now ranks) (now nodes) m by × Fills (now ids) (λ j. nameAt Kind.Nodo (deliveryOf (filesOf (map now files)) Kind.Nodo) j 1) (deliveryOf (filesOf (map now files)) Kind.Nodo .count) m × (n ≤ length (now lines)) × (n ≤ length (now «line_order»)) × (n ≤ length (now tops)) × (deliveryOf (filesOf (map now files)) Kind.Tramo .count ≤ length (now marks)) × Positions (now nx) (now ny) Kind.Nodo (deliveryOf (filesOf (map now files)) Kind.Nodo) m × (n ≤ length (now vx)) × (n ≤ length (now vy)) ⌝ }
     ensures { λ r. ⌜ r ≡ fiftyTally (deliveryOf (filesOf (map now (files .entry)))) Kind.Tramo ⌝ }
 {
     let line_way = prepare_tops(keys, n, lines, line_hints, line_order, tops);
+    fill_positions(file_of(files, Kind::Vertice), Kind::Vertice, n, vx, vy);
     tally_ends(
         files,
         keys,
@@ -188,6 +206,8 @@ fn tally_tramos<'a, 'b>(
         vertices,
         way,
         n,
+        vx,
+        vy,
         lines,
         line_order,
         line_hints,
@@ -198,6 +218,8 @@ fn tally_tramos<'a, 'b>(
         nodes,
         by,
         m,
+        nx,
+        ny,
         marks,
     )
 }
@@ -210,14 +232,16 @@ fn tally_points<'a, 'b>(
     nodes: &'b [u16],
     by: Way,
     m: usize,
+    nx: &'b [u64],
+    ny: &'b [u64],
     marks: &mut [u8],
 ) -> Tally
-    requires { ⌜ Ready (now ids) (now ranks) (now nodes) m by × Fills (now ids) (λ j. nameAt Kind.Nodo (deliveryOf (filesOf (map now files)) Kind.Nodo) j 1) (deliveryOf (filesOf (map now files)) Kind.Nodo .count) m × (deliveryOf (filesOf (map now files)) Kind.ObPun .count ≤ length (now marks)) ⌝ }
+    requires { ⌜ Ready (now ids) (now ranks) (now nodes) m by × Fills (now ids) (λ j. nameAt Kind.Nodo (deliveryOf (filesOf (map now files)) Kind.Nodo) j 1) (deliveryOf (filesOf (map now files)) Kind.Nodo .count) m × (deliveryOf (filesOf (map now files)) Kind.ObPun .count ≤ length (now marks)) × Positions (now nx) (now ny) Kind.Nodo (deliveryOf (filesOf (map now files)) Kind.Nodo) m ⌝ }
     ensures { λ r. ⌜ r ≡ fiftyTally (deliveryOf (filesOf (map now (files .entry)))) Kind.ObPun ⌝ }
 {
     let ob_pun = file_of(files, Kind::ObPun);
     let nodo = file_of(files, Kind::Nodo);
-    mark_astray(ob_pun, nodo, ids, ranks, nodes, by, m, marks);
+    mark_astray(ob_pun, nodo, ids, ranks, nodes, by, m, nx, ny, marks);
     with_marks(no_tally(), marks, rows(ob_pun, Kind::ObPun), 35)
 }
 
@@ -249,6 +273,8 @@ fn tally_nodes<'a, 'b>(
     nodes: &'b [u16],
     by: Way,
     m: usize,
+    nx: &'b [u64],
+    ny: &'b [u64],
     most: usize,
     used: &mut [u8],
     xs: &mut [u64],
@@ -262,14 +288,14 @@ fn tally_nodes<'a, 'b>(
     pair_order: &mut [usize],
     marks: &mut [u8],
 ) -> Tally
-    requires { ⌜ Ready (now ids) (now ranks) (now nodes) m by × Fills (now ids) (λ j. nameAt Kind.Nodo (deliveryOf (filesOf (map now files)) Kind.Nodo) j 1) (deliveryOf (filesOf (map now files)) Kind.Nodo .count) m × ((k : Kind) → deliveryOf (filesOf (map now files)) k .count ≤ most) × (most ≤ length (now used)) × (most ≤ length (now xs)) × (most ≤ length (now ys)) × (most ≤ length (now order)) × (most ≤ length (now zs)) × (most ≤ length (now spots)) × (most ≤ length (now pairs)) × (most ≤ length (now «pair_order»)) × (most ≤ length (now marks)) ⌝ }
+    requires { ⌜ Ready (now ids) (now ranks) (now nodes) m by × Fills (now ids) (λ j. nameAt Kind.Nodo (deliveryOf (filesOf (map now files)) Kind.Nodo) j 1) (deliveryOf (filesOf (map now files)) Kind.Nodo .count) m × ((k : Kind) → deliveryOf (filesOf (map now files)) k .count ≤ most) × (most ≤ length (now used)) × (most ≤ length (now xs)) × (most ≤ length (now ys)) × (most ≤ length (now order)) × (most ≤ length (now zs)) × (most ≤ length (now spots)) × (most ≤ length (now pairs)) × (most ≤ length (now «pair_order»)) × (most ≤ length (now marks)) × Positions (now nx) (now ny) Kind.Nodo (deliveryOf (filesOf (map now files)) Kind.Nodo) m ⌝ }
     ensures { λ r. ⌜ r ≡ fiftyTally (deliveryOf (filesOf (map now (files .entry)))) Kind.Nodo ⌝ }
 {
     let ob_pun = file_of(files, Kind::ObPun);
     let tramo = file_of(files, Kind::Tramo);
     let vertice = file_of(files, Kind::Vertice);
     let nodo = file_of(files, Kind::Nodo);
-    mark_same_place(nodo, most, xs, ys, zs, spots, hints, order, pairs, marks);
+    mark_same_place(nodo, nx, ny, m, zs, spots, hints, order, pairs, marks);
     let t = with_marks(no_tally(), marks, m, 4);
     mark_idle_nodes(
         ob_pun,
@@ -295,7 +321,8 @@ fn tally_nodes<'a, 'b>(
     with_marks(t, marks, m, 6)
 }
 
-// Each file's tally, with the keys of the vertices and the ids of the nodes in hand. No rule of the fifties is read of CATALOGO and OB_TEX.
+// Each file's tally, with the keys of the vertices and the ids, X and Y of the nodes in hand. No rule of the fifties is read of CATALOGO and
+// OB_TEX.
 fn tally_in_hand<'a, 'b>(
     files: [&'a [u8]; FILES],
     keys: &'b [u64],
@@ -308,6 +335,8 @@ fn tally_in_hand<'a, 'b>(
     nodes: &'b [u16],
     by: Way,
     m: usize,
+    nx: &'b [u64],
+    ny: &'b [u64],
     most: usize,
     a: &mut [u64],
     b: &mut [u64],
@@ -321,10 +350,10 @@ fn tally_in_hand<'a, 'b>(
     used: &mut [u8],
     marks: &mut [u8],
 ) -> [Tally; FILES]
-    requires { ⌜ Ready (now keys) (now order) (now vertices) n way × Fills (now keys) (keyOf Kind.Vertice (deliveryOf (filesOf (map now files)) Kind.Vertice)) (deliveryOf (filesOf (map now files)) Kind.Vertice .count) n × Ready (now ids) (now ranks) (now nodes) m by × Fills (now ids) (λ j. nameAt Kind.Nodo (deliveryOf (filesOf (map now files)) Kind.Nodo) j 1) (deliveryOf (filesOf (map now files)) Kind.Nodo .count) m × ((k : Kind) → deliveryOf (filesOf (map now files)) k .count ≤ most) × (most ≤ length (now a)) × (most ≤ length (now b)) × (most ≤ length (now c)) × (most ≤ length (now d)) × (most ≤ length (now e)) × (most ≤ length (now «a_order»)) × (most ≤ length (now «b_order»)) × (most ≤ length (now used)) × (most ≤ length (now marks)) ⌝ }
+    requires { ⌜ Ready (now keys) (now order) (now vertices) n way × Fills (now keys) (keyOf Kind.Vertice (deliveryOf (filesOf (map now files)) Kind.Vertice)) (deliveryOf (filesOf (map now files)) Kind.Vertice .count) n × Ready (now ids) (now ranks) (now nodes) m by × Fills (now ids) (λ j. nameAt Kind.Nodo (deliveryOf (filesOf (map now files)) Kind.Nodo) j 1) (deliveryOf (filesOf (map now files)) Kind.Nodo .count) m × ((k : Kind) → deliveryOf (filesOf (map now files)) k .count ≤ most) × (most ≤ length (now a)) × (most ≤ length (now b)) × (most ≤ length (now c)) × (most ≤ length (now d)) × (most ≤ length (now e)) × (most ≤ length (now «a_order»)) × (most ≤ length (now «b_order»)) × (most ≤ length (now used)) × (most ≤ length (now marks)) × Positions (now nx) (now ny) Kind.Nodo (deliveryOf (filesOf (map now files)) Kind.Nodo) m ⌝ }
     ensures { λ r. ⌜ r ≡ fiftyTallies (deliveryOf (filesOf (map now (files .entry)))) ⌝ }
 {
-    let points = tally_points(files, ids, ranks, nodes, by, m, marks);
+    let points = tally_points(files, ids, ranks, nodes, by, m, nx, ny, marks);
     let objects = tally_objects(files, a, a_hints, a_order, used, marks);
     let tramos = tally_tramos(
         files,
@@ -338,10 +367,14 @@ fn tally_in_hand<'a, 'b>(
         nodes,
         by,
         m,
+        nx,
+        ny,
         a,
         a_hints,
         a_order,
         b,
+        c,
+        d,
         marks,
     );
     let vertices = tally_vertices(files, keys, order, vertices, way, n, marks);
@@ -352,6 +385,8 @@ fn tally_in_hand<'a, 'b>(
         nodes,
         by,
         m,
+        nx,
+        ny,
         most,
         used,
         a,
@@ -386,6 +421,8 @@ fn tally_files<'a>(
     ids: &mut [u64],
     id_hints: &mut [u16],
     id_order: &mut [usize],
+    nx: &mut [u64],
+    ny: &mut [u64],
     a: &mut [u64],
     b: &mut [u64],
     c: &mut [u64],
@@ -398,13 +435,14 @@ fn tally_files<'a>(
     used: &mut [u8],
     marks: &mut [u8],
 ) -> [Tally; FILES]
-    requires { ⌜ ((k : Kind) → deliveryOf (filesOf (map now files)) k .count ≤ most) × (most ≤ length (now keys)) × (most ≤ length (now «key_order»)) × (most ≤ length (now ids)) × (most ≤ length (now «id_order»)) × (most ≤ length (now a)) × (most ≤ length (now b)) × (most ≤ length (now c)) × (most ≤ length (now d)) × (most ≤ length (now e)) × (most ≤ length (now «a_order»)) × (most ≤ length (now «b_order»)) × (most ≤ length (now used)) × (most ≤ length (now marks)) ⌝ }
+    requires { ⌜ ((k : Kind) → deliveryOf (filesOf (map now files)) k .count ≤ most) × (most ≤ length (now keys)) × (most ≤ length (now «key_order»)) × (most ≤ length (now ids)) × (most ≤ length (now «id_order»)) × (most ≤ length (now a)) × (most ≤ length (now b)) × (most ≤ length (now c)) × (most ≤ length (now d)) × (most ≤ length (now e)) × (most ≤ length (now «a_order»)) × (most ≤ length (now «b_order»)) × (most ≤ length (now used)) × (most ≤ length (now marks)) × (most ≤ length (now nx)) × (most ≤ length (now ny)) ⌝ }
     ensures { λ r. ⌜ r ≡ fiftyTallies (deliveryOf (filesOf (map now (files .entry)))) ⌝ }
 {
     let n = fill_keys(file_of(files, Kind::Vertice), Kind::Vertice, keys);
     let way = prepare(keys, n, key_hints, key_order);
     let m = fill_names(file_of(files, Kind::Nodo), Kind::Nodo, 1, ids);
     let by = prepare(ids, m, id_hints, id_order);
+    fill_positions(file_of(files, Kind::Nodo), Kind::Nodo, most, nx, ny);
     tally_in_hand(
         files,
         keys,
@@ -417,6 +455,8 @@ fn tally_files<'a>(
         id_hints,
         by,
         m,
+        nx,
+        ny,
         most,
         a,
         b,
@@ -443,6 +483,8 @@ fn tally_few<'a>(files: [&'a [u8]; FILES]) -> [Tally; FILES]
     let mut ids = [0u64; FEW];
     let mut id_hints = [0u16; FEW_HINTS];
     let mut id_order = [0usize; FEW];
+    let mut nx = [0u64; FEW];
+    let mut ny = [0u64; FEW];
     let mut a = [0u64; FEW];
     let mut b = [0u64; FEW];
     let mut c = [0u64; FEW];
@@ -463,6 +505,8 @@ fn tally_few<'a>(files: [&'a [u8]; FILES]) -> [Tally; FILES]
         &mut ids,
         &mut id_hints,
         &mut id_order,
+        &mut nx,
+        &mut ny,
         &mut a,
         &mut b,
         &mut c,
@@ -487,6 +531,8 @@ fn tally_many<'a>(files: [&'a [u8]; FILES]) -> [Tally; FILES]
     let mut ids = [0u64; LIMIT];
     let mut id_hints = [0u16; HINTS];
     let mut id_order = [0usize; LIMIT];
+    let mut nx = [0u64; LIMIT];
+    let mut ny = [0u64; LIMIT];
     let mut a = [0u64; LIMIT];
     let mut b = [0u64; LIMIT];
     let mut c = [0u64; LIMIT];
@@ -507,6 +553,8 @@ fn tally_many<'a>(files: [&'a [u8]; FILES]) -> [Tally; FILES]
         &mut ids,
         &mut id_hints,
         &mut id_order,
+        &mut nx,
+        &mut ny,
         &mut a,
         &mut b,
         &mut c,

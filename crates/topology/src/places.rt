@@ -18,6 +18,7 @@ ghost use Rattle.record.specs.Says.{tableOf};
 ghost use Rattle.record.specs.Names.{nameAt};
 ghost use Rattle.record.specs.machinery.Columns.{Fills};
 ghost use Rattle.topology.specs.Rules.{xAt, yAt, zAt, nodeIn};
+ghost use Rattle.topology.specs.machinery.Places.{Positions};
 
 pub(crate) fn x_at(s: &[u8], k: Kind, i: usize) -> u64
     ensures { λ r. ⌜ r ≡ xAt k (tableOf (now (s .entry)) k) i ⌝ }
@@ -62,8 +63,8 @@ pub(crate) fn scan_node(nodo: &[u8], wanted: u64, x: u64, y: u64) -> bool
     false
 }
 
-// Whether a node with the name is at X and Y. The node that is found by its id decides where it is there, and where ids are known to
-// differ, since then no other has the name.
+// Whether a node with the name is at X and Y, with X and Y of the nodes in hand. The node that is found by its id decides where it is there,
+// and where ids are known to differ, since then no other has the name.
 pub(crate) fn node_at<'a, 'b>(
     nodo: &'a [u8],
     ids: &'b [u64],
@@ -71,18 +72,20 @@ pub(crate) fn node_at<'a, 'b>(
     hints: &'b [u16],
     way: Way,
     n: usize,
+    xs: &'b [u64],
+    ys: &'b [u64],
     wanted: u64,
     x: u64,
     y: u64,
 ) -> bool
-    requires { ⌜ Ready (now ids) (now order) (now hints) n way × Fills (now ids) (λ j. nameAt Kind.Nodo (tableOf (now nodo) Kind.Nodo) j 1) (tableOf (now nodo) Kind.Nodo .count) n ⌝ }
+    requires { ⌜ Ready (now ids) (now order) (now hints) n way × Fills (now ids) (λ j. nameAt Kind.Nodo (tableOf (now nodo) Kind.Nodo) j 1) (tableOf (now nodo) Kind.Nodo .count) n × Positions (now xs) (now ys) Kind.Nodo (tableOf (now nodo) Kind.Nodo) n ⌝ }
     ensures { λ r. ⌜ r ≡ nodeIn (tableOf (now (nodo .entry)) Kind.Nodo) wanted x y ⌝ }
 {
     let found = look(ids, order, hints, way, n, wanted);
     match found {
         Found::Nothing => false,
         Found::At(j) => {
-            if is_at(nodo, Kind::Nodo, j, x, y) {
+            if (xs[j] == x) & (ys[j] == y) {
                 return true;
             }
             if way.apart {

@@ -59,15 +59,13 @@ pub(crate) fn pair_up<'a>(
     way
 }
 
-// X, Y and Z of each node.
-fn fill_nodes(nodo: &[u8], most: usize, xs: &mut [u64], ys: &mut [u64], zs: &mut [u64]) -> usize
-    requires { ⌜ (tableOf (now nodo) Kind.Nodo .count ≤ most) × (most ≤ length (now xs)) × (most ≤ length (now ys)) × (most ≤ length (now zs)) ⌝ }
-    ensures { λ r. ⌜ Nodes (now (xs .exit)) (now (ys .exit)) (now (zs .exit)) (tableOf (now (nodo .entry)) Kind.Nodo) r ⌝ }
+// Z of each of n nodes, with X and Y in hand, which are there for the contract alone.
+fn fill_heights<'a, 'b>(nodo: &'a [u8], xs: &'b [u64], ys: &'b [u64], n: usize, zs: &mut [u64])
+    requires { ⌜ Positions (now xs) (now ys) Kind.Nodo (tableOf (now nodo) Kind.Nodo) n × (n ≤ length (now zs)) ⌝ }
+    ensures { λ _. ⌜ Nodes (now (xs .entry)) (now (ys .entry)) (now (zs .exit)) (tableOf (now (nodo .entry)) Kind.Nodo) n ⌝ }
 {
     let k = Kind::Nodo;
-    let n = fill_positions(nodo, k, most, xs, ys);
     fill_places(nodo, k, k.x_field() + 4, zs);
-    n
 }
 
 // X, Y and Z of each of n records as one number (`spot`).
@@ -103,12 +101,12 @@ fn mark_same<'a>(
     mark_repeats(spots, order, hints, way, n, marks);
 }
 
-// 54: marks the nodes at an earlier one's place, with room lent. Where no two spots are equal no two places are.
-pub(crate) fn mark_same_place(
-    nodo: &[u8],
-    most: usize,
-    xs: &mut [u64],
-    ys: &mut [u64],
+// 54: marks the nodes at an earlier one's place, with X and Y of the nodes in hand and room lent. Where no two spots are equal no two places are.
+pub(crate) fn mark_same_place<'a, 'b>(
+    nodo: &'a [u8],
+    xs: &'b [u64],
+    ys: &'b [u64],
+    n: usize,
     zs: &mut [u64],
     spots: &mut [u64],
     hints: &mut [u16],
@@ -116,10 +114,10 @@ pub(crate) fn mark_same_place(
     pairs: &mut [u64],
     marks: &mut [u8],
 )
-    requires { ⌜ (tableOf (now nodo) Kind.Nodo .count ≤ most) × (most ≤ length (now xs)) × (most ≤ length (now ys)) × (most ≤ length (now zs)) × (most ≤ length (now spots)) × (most ≤ length (now order)) × (most ≤ length (now pairs)) × (tableOf (now nodo) Kind.Nodo .count ≤ length (now marks)) ⌝ }
+    requires { ⌜ Positions (now xs) (now ys) Kind.Nodo (tableOf (now nodo) Kind.Nodo) n × (n ≤ length (now zs)) × (n ≤ length (now spots)) × (n ≤ length (now order)) × (n ≤ length (now pairs)) × (n ≤ length (now marks)) ⌝ }
     ensures { λ _. ⌜ Marked (now (marks .entry)) (now (marks .exit)) (placedBefore (tableOf (now (nodo .entry)) Kind.Nodo)) (tableOf (now (nodo .entry)) Kind.Nodo .count) ⌝ }
 {
-    let n = fill_nodes(nodo, most, xs, ys, zs);
+    fill_heights(nodo, xs, ys, n, zs);
     fill_spots(xs, ys, zs, n, spots);
     let way = prepare(spots, n, hints, order);
     if way.apart {

@@ -57,11 +57,17 @@ slice-aggregate-tally-files-16 c = search needs
 slice-aggregate-tally-files-17 : tie.Need-slice-aggregate-tally-files-17
 slice-aggregate-tally-files-17 c = search needs
 
+slice-aggregate-tally-files-18 : tie.Need-slice-aggregate-tally-files-18
+slice-aggregate-tally-files-18 c = search needs
+
+slice-aggregate-tally-files-19 : tie.Need-slice-aggregate-tally-files-19
+slice-aggregate-tally-files-19 c = search needs
+
 tally-files-requires : tie.Need-tally-files-requires
-tally-files-requires c κs = (λ k. min-le-left _ _, omega arith, omega arith, omega arith, omega arith, omega arith, omega arith, omega arith, omega arith, omega arith, omega arith, omega arith, omega arith, omega arith)
+tally-files-requires c κs = (λ k. min-le-left _ _, omega arith, omega arith, omega arith, omega arith, omega arith, omega arith, omega arith, omega arith, omega arith, omega arith, omega arith, omega arith, omega arith, omega arith, omega arith)
 
 returns : tie.Need-returns
-returns c = c .before .before .before .before .before .before .before .before .before .before .before .before .before .before .before .before .before .tally-files .ensures
+returns c = c .before .before .before .before .before .before .before .before .before .before .before .before .before .before .before .before .before .before .before .tally-files .ensures
 
 pub tally-many-spec : {M : Type 1} → statement M
 tally-many-spec =
@@ -84,5 +90,7 @@ tally-many-spec =
     slice-aggregate-tally-files-15
     slice-aggregate-tally-files-16
     slice-aggregate-tally-files-17
+    slice-aggregate-tally-files-18
+    slice-aggregate-tally-files-19
     tally-files-requires
     returns)

@@ -13,7 +13,7 @@ file-of-requires-2 : tie.Need-file-of-requires-2
 file-of-requires-2 c κs = search needs
 
 mark-astray-requires : tie.Need-mark-astray-requires
-mark-astray-requires c κs = (c .before .before .before .before .before .before .before .pre .0, rw (c .before .file-of2 .ensures) (c .before .before .before .before .before .before .before .pre .1), rw (c .before .before .file-of .ensures) (c .before .before .before .before .before .before .before .pre .2))
+mark-astray-requires c κs = (c .before .before .before .before .before .before .before .before .before .pre .0, rw (c .before .file-of2 .ensures) (c .before .before .before .before .before .before .before .before .before .pre .1), rw (c .before .before .file-of .ensures) (c .before .before .before .before .before .before .before .before .before .pre .2), rw (c .before .file-of2 .ensures) (c .before .before .before .before .before .before .before .before .before .pre .3))
 
 no-tally-requires : tie.Need-no-tally-requires
 no-tally-requires c κs = search needs
@@ -22,7 +22,7 @@ rows-requires : tie.Need-rows-requires
 rows-requires c κs = search needs
 
 with-marks-requires : tie.Need-with-marks-requires
-with-marks-requires c κs = (none-little (c .before .before .no-tally .ensures), omega (arith, c .before .before .before .before .before .mark-astray .ensures .long, rw (← c .before .before .before .before .before .before .before .before .file-of .ensures) at (c .before .before .before .before .before .before .before .before .before .before .before .before .before .pre .2), c .rows .ensures .0), c .rows .ensures .1)
+with-marks-requires c κs = (none-little (c .before .before .no-tally .ensures), omega (arith, c .before .before .before .before .before .mark-astray .ensures .long, rw (← c .before .before .before .before .before .before .before .before .file-of .ensures) at (c .before .before .before .before .before .before .before .before .before .before .before .before .before .before .before .pre .2), c .rows .ensures .0), c .rows .ensures .1)
 
 same-length : tie.Need-same-length
 same-length c = search needs
