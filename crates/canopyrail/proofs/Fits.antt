@@ -23,9 +23,9 @@ use Rattle.record.specs.Cut.{countOf}
 use Rattle.record.specs.Rules.{breaks10}
 use Rattle.record.specs.Breaks.{shapeTests, there, testsAt, broken}
 use Rattle.record.proofs.TableLaws.{sane}
-use Rattle.keys.specs.Groups.{brokenBy}
-use Rattle.keys.specs.Rules.{keysBroken}
-use Rattle.topology.specs.Rules.{topologyBroken}
+use Rattle.keys.specs.machinery.Groups.{brokenBy}
+use Rattle.keys.specs.machinery.Findings.{keysBroken}
+use Rattle.topology.specs.machinery.Findings.{topologyBroken}
 use Rattle.judge.specs.Verdict.{judged}
 use Rattle.judge.specs.Broken.{placeAt}
 use Rattle.judge.specs.machinery.Searched.{brokenIn}

@@ -36,9 +36,11 @@ use Rattle.record.specs.Files.{Files, Delivery, deliveryOf}
 use Rattle.record.specs.Names.{nameAt}
 use Rattle.record.specs.Rules.{twenties, notNumber, breaks22, breaks23, breaks25, missingIn, inDomain, outside}
 use Rattle.record.specs.Breaks.{numberOf, tenReasons, twentyReasons, there, testsAt, broken}
-use Rattle.keys.specs.Groups.{brokenBy}
-use Rattle.keys.specs.Rules.{orFirst, firstWith, refersToCatalogue, mistyped, typedIn, breaks41, keyTests, keyReasons, keysBroken}
-use Rattle.topology.specs.Rules.{fiftyReasons, topologyBroken}
+use Rattle.keys.specs.machinery.Groups.{brokenBy}
+use Rattle.keys.specs.Rules.{orFirst, firstWith, refersToCatalogue, mistyped, typedIn, breaks41, keyTests, keyReasons}
+use Rattle.keys.specs.machinery.Findings.{keysBroken}
+use Rattle.topology.specs.Rules.{fiftyReasons}
+use Rattle.topology.specs.machinery.Findings.{topologyBroken}
 use Rattle.judge.specs.Verdict.{judged}
 use Rattle.judge.specs.Broken.{reasonOf, placeAt}
 use Rattle.judge.specs.machinery.Searched.{brokenIn}

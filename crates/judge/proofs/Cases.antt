@@ -20,9 +20,11 @@ use Rattle.codec.specs.Writes.{joined}
 use Rattle.codec.specs.Refusals.{refuses62, badText, refuses63, blankAt, partnersMissing, refuses64, refuses65, valueBreaks, valuesFinding}
 use Rattle.codec.specs.Calls.{answerIn}
 use Rattle.record.specs.Names.{nameAt, keyOf}
-use Rattle.keys.specs.Rules.{repeats, breaks30, dangles, breaks40, typedIn, mistyped, breaks41, keyTests, keyReasons, keysIn, keysFinding}
-use Rattle.keys.specs.Groups.{cellBreak, groupFinding, overFiles}
-use Rattle.topology.specs.Rules.{placed, nodeIn, highestIn, meets, gap, breaks50, unpaired, breaks51, startElsewhere, breaks52, endElsewhere, breaks53, samePlace, placedBefore, breaks54, pointElsewhere, breaks55, nodeUsed, breaks56, objectIdle, breaks57, breaks59, fifties, fiftyReasons, topologyIn, topologyFinding}
+use Rattle.keys.specs.Rules.{repeats, breaks30, dangles, breaks40, typedIn, mistyped, breaks41, keyTests, keyReasons}
+use Rattle.keys.specs.machinery.Findings.{keysIn, keysFinding}
+use Rattle.keys.specs.machinery.Groups.{cellBreak, groupFinding, overFiles}
+use Rattle.topology.specs.Rules.{placed, nodeIn, highestIn, meets, gap, breaks50, unpaired, breaks51, startElsewhere, breaks52, endElsewhere, breaks53, samePlace, placedBefore, breaks54, pointElsewhere, breaks55, nodeUsed, breaks56, objectIdle, breaks57, breaks59, fifties, fiftyReasons}
+use Rattle.topology.specs.machinery.Findings.{topologyIn, topologyFinding}
 use Rattle.judge.specs.Broken.{saidTests, testsOf, reasonOf, breaksIn, breaks}
 use Rattle.judge.specs.Verdict.{judged, countsOf, verdictOf}
 use Rattle.judge.specs.Cases.{ascii, Case, Outcome, outcome, table}

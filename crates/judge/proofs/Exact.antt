@@ -31,9 +31,10 @@ use Rattle.record.specs.Cut.{countOf}
 use Rattle.record.specs.Files.{Files, deliveryOf}
 use Rattle.record.specs.Breaks.{numberOf, breakOf, findingOf, shapeTests, testsAt, broken}
 use Rattle.record.proofs.TableLaws.{sane, file-same, which-file}
-use Rattle.keys.specs.Groups.{brokenBy}
-use Rattle.keys.specs.Rules.{keyTests, keysBroken}
-use Rattle.topology.specs.Rules.{topologyBroken}
+use Rattle.keys.specs.machinery.Groups.{brokenBy}
+use Rattle.keys.specs.Rules.{keyTests}
+use Rattle.keys.specs.machinery.Findings.{keysBroken}
+use Rattle.topology.specs.machinery.Findings.{topologyBroken}
 use Rattle.judge.specs.declared.judge.Verdict.{Verdict}
 use Rattle.judge.specs.Broken.{groups, isThere, saidTests, testsOf, reasonOf, holds, breaksIn, atWhich, breaks, placeAt, First, Finds, Judges}
 use Rattle.judge.specs.Verdict.{judged, countsOf, verdictOf}

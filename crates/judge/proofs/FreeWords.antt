@@ -34,7 +34,7 @@ use Rattle.record.proofs.TableLaws.{every}
 use Rattle.record.proofs.PackedLaws.{form-digit, domain-digit}
 use Rattle.record.proofs.CutLaws.{record-past, record-long}
 use Rattle.record.proofs.FindingLaws.{inFile, fields-is, shape-is}
-use Rattle.keys.specs.Groups.{breakIn, overFiles}
+use Rattle.keys.specs.machinery.Groups.{breakIn, overFiles}
 use Rattle.keys.proofs.Agree.{Agrees, isRead, keys-agree}
 use Rattle.topology.proofs.Agree.{topology-agree}
 use Rattle.judge.specs.Broken.{groups}

@@ -22,7 +22,7 @@ use Rattle.record.specs.Table.{fieldsOf, whichOf, fileCount}
 use Rattle.record.specs.Cut.{countOf, recordOf}
 use Rattle.record.specs.Breaks.{findingOf, recordFinding, fieldsFinding}
 use Rattle.record.proofs.FindingLaws.{inFile, fields-is, record-turn}
-use Rattle.keys.specs.Groups.{Tests, Reasons, cellBreak, cellsOf, groupFinding, brokenBy, breakIn, atFile, overFiles}
+use Rattle.keys.specs.machinery.Groups.{Tests, Reasons, cellBreak, cellsOf, groupFinding, brokenBy, breakIn, atFile, overFiles}
 
 -- OF A FILE'S FIELDS: each record is lawful
 finding-none : (o : Option Break) → findingOf o ≡ Fine → o ≡ none

@@ -26,11 +26,13 @@ use Rattle.record.specs.Breaks.{numberOf, breakOf, findingOf, tenReasons, twent
 use Rattle.record.proofs.Claims.{MeansBy}
 use Rattle.record.proofs.TableLaws.{file-same}
 use Rattle.record.proofs.Meaning.{shape-means, fields-means, means-shown}
-use Rattle.keys.specs.Rules.{keyReasons, keysIn, keysFinding, keysBroken}
-use Rattle.keys.specs.Groups.{Reasons, breakIn, overFiles}
+use Rattle.keys.specs.Rules.{keyReasons}
+use Rattle.keys.specs.machinery.Findings.{keysIn, keysFinding, keysBroken}
+use Rattle.keys.specs.machinery.Groups.{Reasons, breakIn, overFiles}
 use Rattle.keys.proofs.GroupMeaning.{keys-means, over-fine, over-broken, break-none, break-some}
 use Rattle.keys.proofs.Shown.{ShownBy, keys-shown}
-use Rattle.topology.specs.Rules.{fiftyReasons, topologyIn, topologyFinding, topologyBroken}
+use Rattle.topology.specs.Rules.{fiftyReasons}
+use Rattle.topology.specs.machinery.Findings.{topologyIn, topologyFinding, topologyBroken}
 use Rattle.topology.proofs.Meaning.{topology-means, topology-shown}
 use Rattle.judge.specs.Broken.{groups, reasonOf, placeAt}
 use Rattle.judge.specs.machinery.Searched.{groupAt, searched, brokenIn}

@@ -10,9 +10,10 @@ use borrow.Author.Tests.{ne-eqb}
 use Rattle.laws.specs.Row.{pick}
 use Rattle.record.specs.declared.kind.Kind.{Kind}
 use Rattle.record.specs.Files.{Delivery}
-use Rattle.keys.specs.Groups.{brokenBy}
-use Rattle.keys.specs.Rules.{keyTests, keysBroken}
-use Rattle.topology.specs.Rules.{topologyBroken}
+use Rattle.keys.specs.machinery.Groups.{brokenBy}
+use Rattle.keys.specs.Rules.{keyTests}
+use Rattle.keys.specs.machinery.Findings.{keysBroken}
+use Rattle.topology.specs.machinery.Findings.{topologyBroken}
 use Rattle.judge.specs.Broken.{isThere, saidTests, saidHolds}
 
 pub under-pick : (b : Bool) (xs : List Bool) (u : ℕ) → getD (pick b xs []) u false ≡ (b && getD xs u false)

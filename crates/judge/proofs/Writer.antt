@@ -16,9 +16,11 @@ use Rattle.record.specs.Files.{Delivery, deliveryOf}
 use Rattle.codec.specs.Values.{valuesSay}
 use Rattle.codec.specs.Refusals.{valuesFinding}
 use Rattle.codec.proofs.AllFalse.{values-fine}
-use Rattle.keys.specs.Groups.{breakIn}
-use Rattle.keys.specs.Rules.{keyTests, keyReasons, keysBroken, keysIn, keysFinding}
-use Rattle.topology.specs.Rules.{fiftyReasons, topologyTests, topologyBroken, topologyIn, topologyFinding}
+use Rattle.keys.specs.machinery.Groups.{breakIn}
+use Rattle.keys.specs.Rules.{keyTests, keyReasons}
+use Rattle.keys.specs.machinery.Findings.{keysBroken, keysIn, keysFinding}
+use Rattle.topology.specs.Rules.{fiftyReasons}
+use Rattle.topology.specs.machinery.Findings.{topologyTests, topologyBroken, topologyIn, topologyFinding}
 use Rattle.judge.specs.Broken.{groups}
 use Rattle.judge.specs.Verdict.{judged, countsOf, verdictOf}
 use Rattle.judge.specs.machinery.Searched.{groupAt, searched}

@@ -18,7 +18,7 @@ ghost use Rattle.record.specs.Files.{filesOf};
 ghost use Rattle.record.specs.Table.{onFile};
 ghost use Rattle.record.specs.Cut.{countOf};
 ghost use Rattle.record.specs.Breaks.{shapeFinding, fieldsFinding};
-ghost use Rattle.keys.specs.Groups.{atFile, overFiles};
+ghost use Rattle.keys.specs.machinery.Groups.{atFile, overFiles};
 ghost use Rattle.judge.specs.Verdict.{countsOf, verdictOf};
 ghost use Rattle.judge.specs.machinery.Searched.{groupAt, searched};
 

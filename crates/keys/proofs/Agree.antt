@@ -27,8 +27,9 @@ use Rattle.record.specs.Says.{Said, missing, letterIn}
 use Rattle.record.proofs.TableLaws.{every, everywhere, every-place, past}
 use Rattle.record.specs.Files.{Delivery}
 use Rattle.record.specs.Names.{nameAt, keyOf}
-use Rattle.keys.specs.Rules.{firstWith, repeats, breaks30, dangles, danglesTo, breaks40, typedIn, mistyped, refersToCatalogue, breaks41, keyTests, keyReasons, keysIn, keysFinding, keysBroken}
-use Rattle.keys.specs.Groups.{cellBreak, cellsOf, groupFinding, brokenBy, overFiles}
+use Rattle.keys.specs.Rules.{firstWith, repeats, breaks30, dangles, danglesTo, breaks40, typedIn, mistyped, refersToCatalogue, breaks41, keyTests, keyReasons}
+use Rattle.keys.specs.machinery.Findings.{keysIn, keysFinding, keysBroken}
+use Rattle.keys.specs.machinery.Groups.{cellBreak, cellsOf, groupFinding, brokenBy, overFiles}
 
 pub record Agrees (d e : Delivery) : Type 0 where
   pub count : (k : Kind) → d k .count ≡ e k .count

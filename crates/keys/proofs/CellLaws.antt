@@ -31,7 +31,7 @@ use Rattle.record.specs.declared.reason.Reason.the-variants.{LongFile10}
 use Rattle.record.specs.declared.reason.Break.{Break}
 use Rattle.record.specs.declared.reason.Finding.the-variants.{Fine, Broken}
 use Rattle.record.specs.Breaks.{breakOf, findingOf}
-use Rattle.keys.specs.Groups.{Tests, Reasons, cellBreak, cellsOf, groupFinding}
+use Rattle.keys.specs.machinery.Groups.{Tests, Reasons, cellBreak, cellsOf, groupFinding}
 use Rattle.keys.specs.machinery.Cells.{cellTest, tallyIn, OneMore}
 pub use Rattle.keys.specs.machinery.Cells.{TalliedTo}
 

@@ -29,8 +29,9 @@ use Rattle.record.specs.Breaks.{numberOf, findingOf}
 use Rattle.record.proofs.Claims.{MeansBy}
 use Rattle.record.proofs.TableLaws.{sane, which-file}
 use Rattle.record.specs.Files.{Delivery}
-use Rattle.keys.specs.Rules.{keyTests, keyReasons, keysIn, keysBroken}
-use Rattle.keys.specs.Groups.{Tests, Reasons, cellsOf, groupFinding, brokenBy, breakIn, atFile, overFiles}
+use Rattle.keys.specs.Rules.{keyTests, keyReasons}
+use Rattle.keys.specs.machinery.Findings.{keysIn, keysBroken}
+use Rattle.keys.specs.machinery.Groups.{Tests, Reasons, cellsOf, groupFinding, brokenBy, breakIn, atFile, overFiles}
 use Rattle.keys.specs.machinery.Cells.{cellTest}
 use Rattle.keys.proofs.CellLaws.{Clear, Least, firstCell, none-cells, some-cells, cellAnswer, group-is}
 

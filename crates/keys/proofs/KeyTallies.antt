@@ -38,8 +38,9 @@ use Rattle.record.specs.Names.{nameAt, keyOf}
 use Rattle.record.specs.machinery.Columns.{Fills}
 use Rattle.record.proofs.FileLaws.{inside}
 use Rattle.record.proofs.TableLaws.{every, everywhere, every-place, past, sane, kind-at, file-same}
-use Rattle.keys.specs.Groups.{Tests, cellsOf}
-use Rattle.keys.specs.Rules.{repeats, breaks30, dangles, breaks40, mistyped, refersToCatalogue, breaks41, keyTests, keyReasons, keysIn}
+use Rattle.keys.specs.machinery.Groups.{Tests, cellsOf}
+use Rattle.keys.specs.Rules.{repeats, breaks30, dangles, breaks40, mistyped, refersToCatalogue, breaks41, keyTests, keyReasons}
+use Rattle.keys.specs.machinery.Findings.{keysIn}
 use Rattle.keys.specs.machinery.Cells.{tallyIn, TalliedTo, OneMore, TwoMore, repeatTests, keyTally, tallyAt, keyTallies}
 use Rattle.keys.proofs.RepeatLaws.{first-filled, repeats-filled}
 use Rattle.keys.proofs.KeyCells.{other-default, other-ten, free-tests}

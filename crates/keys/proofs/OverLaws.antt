@@ -15,7 +15,7 @@ use Rattle.record.specs.declared.reason.Finding.the-variants.{Fine, Broken}
 use Rattle.record.specs.Table.{whichOf, fileCount}
 use Rattle.record.specs.Breaks.{findingOf, fine}
 use Rattle.record.proofs.FindingLaws.{finding-more, finding-here, finding-end}
-use Rattle.keys.specs.Groups.{breakIn, atFile, overFiles}
+use Rattle.keys.specs.machinery.Groups.{breakIn, atFile, overFiles}
 
 -- OVER FINDINGS by their number
 break-finding : (v : Finding) → v ≡ findingOf (breakIn v)

@@ -10,8 +10,9 @@ use Rattle.record.specs.declared.reason.Break.{Break}
 use Rattle.record.specs.declared.reason.Finding.the-variants.{Broken}
 use Rattle.record.specs.Breaks.{numberOf, breakOf}
 use Rattle.record.specs.Files.{Delivery}
-use Rattle.keys.specs.Rules.{keyTests, keyReasons, keysIn}
-use Rattle.keys.specs.Groups.{Tests, Reasons, cellsOf, groupFinding}
+use Rattle.keys.specs.Rules.{keyTests, keyReasons}
+use Rattle.keys.specs.machinery.Findings.{keysIn}
+use Rattle.keys.specs.machinery.Groups.{Tests, Reasons, cellsOf, groupFinding}
 use Rattle.keys.specs.machinery.Cells.{cellTest}
 use Rattle.keys.proofs.CellLaws.{some-cells, cellAnswer, group-is}
 use Rattle.keys.proofs.GroupMeaning.{Numbered, key-numbered, finding-some}

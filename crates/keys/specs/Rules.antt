@@ -1,8 +1,6 @@
 -- The rules of keys and references: one test for each of the reasons 30, 40 and 41, true where the rule is broken at field f of
 -- record i (counted from 0) of file k.
 -- Assumes nothing.
-use Rattle.keys.specs.Groups.{groupFinding, brokenBy, overFiles}
-use Rattle.record.specs.declared.reason.Finding.{Finding}
 use Prim.Native.Nat.{ℕ, suc}
 use mathlib.Core.Bool.{Bool, false, not, _&&_}
 use mathlib.Core.List.{List, [], _∷_}
@@ -83,15 +81,3 @@ keyReasons t d k i f =
     ∷ [])
     ∷ [])
     t []
-
--- the first break of the ten t, 3 or 4, in file k
-unfoldable pub keysIn : ℕ → Delivery → Kind → Finding
-keysIn t d k = groupFinding (keyTests t d k) (keyReasons t d k) k (d k .count)
-
--- and in the delivery
-unfoldable pub keysFinding : ℕ → Delivery → Finding
-keysFinding t d = overFiles (keysIn t d)
-
--- the reason with document 01's number n, of the thirties or forties, is broken at record i, counted from 1, and field f of file k
-unfoldable pub keysBroken : Delivery → Kind → ℕ → ℕ → ℕ → Bool
-keysBroken d k n i f = brokenBy (λ t. keyTests t d k) k (d k .count) n i f

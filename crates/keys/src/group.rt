@@ -41,8 +41,9 @@ ghost use Rattle.record.specs.Files.{filesOf, deliveryOf};
 ghost use Rattle.record.specs.machinery.Columns.{Fills, AllFew};
 ghost use Rattle.record.specs.Says.{tableOf};
 ghost use Rattle.record.specs.Names.{nameAt, keyOf};
-ghost use Rattle.keys.specs.Rules.{keyTests, keyReasons, refersToCatalogue, firstWith, keysIn, keysFinding};
-ghost use Rattle.keys.specs.Groups.{atFile};
+ghost use Rattle.keys.specs.Rules.{keyTests, keyReasons, refersToCatalogue, firstWith};
+ghost use Rattle.keys.specs.machinery.Findings.{keysIn, keysFinding};
+ghost use Rattle.keys.specs.machinery.Groups.{atFile};
 ghost use Rattle.keys.specs.machinery.Cells.{TalliedTo, keyTally, tallyAt, keyTallies};
 ghost use Rattle.keys.specs.machinery.Lent.{Lent, Catalogued, AtHand};
 

@@ -26,13 +26,14 @@ use Rattle.record.specs.Names.{keyOf}
 use Rattle.record.specs.machinery.Columns.{Fills}
 use Rattle.record.proofs.TableLaws.{sane, kind-at}
 use Rattle.record.proofs.FileLaws.{inside}
-use Rattle.keys.specs.Groups.{cellsOf}
+use Rattle.keys.specs.machinery.Groups.{cellsOf}
 use Rattle.keys.specs.machinery.Cells.{TalliedTo}
 use Rattle.keys.proofs.CellLaws.{tally-row, tally-broken, tally-fine, tallied-start, tallied-marks, tallied-skip, tallied-end, tallied-most}
 use Rattle.topology.specs.machinery.Cells.{fiftyTally, fiftyTallies}
 use Rattle.topology.specs.machinery.Ends.{apart}
 use Rattle.topology.specs.declared.ends.End.the-variants.{Start, Last}
-use Rattle.topology.specs.Rules.{gap, unpaired, highestIn, highest, tramoLine, placedBefore, pointElsewhere, nodeUsed, objectIdle, breaks50, breaks51, breaks52, breaks53, breaks54, breaks55, breaks56, breaks57, breaks59, fifties, fiftyReasons, topologyIn}
+use Rattle.topology.specs.Rules.{gap, unpaired, highestIn, highest, tramoLine, placedBefore, pointElsewhere, nodeUsed, objectIdle, breaks50, breaks51, breaks52, breaks53, breaks54, breaks55, breaks56, breaks57, breaks59, fifties, fiftyReasons}
+use Rattle.topology.specs.machinery.Findings.{topologyIn}
 use Rattle.index.proofs.MarkLaws.{marked-as}
 use Rattle.topology.proofs.EndLaws.{endless-lent}
 use Rattle.topology.proofs.FiftyLaws.{Free, else-default, free-tests, free-vertice, free-tramo, free-nodo, free-ob-pun, free-ob-lin, free-catalogo, free-ob-tex}

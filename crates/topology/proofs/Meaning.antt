@@ -18,7 +18,8 @@ use Rattle.record.proofs.Claims.{MeansBy}
 use Rattle.record.specs.Files.{Delivery}
 use Rattle.keys.proofs.GroupMeaning.{Numbered, group-means}
 use Rattle.keys.proofs.Shown.{ShownBy, group-shown}
-use Rattle.topology.specs.Rules.{fifties, fiftyReasons, topologyIn, topologyTests, topologyBroken}
+use Rattle.topology.specs.Rules.{fifties, fiftyReasons}
+use Rattle.topology.specs.machinery.Findings.{topologyIn, topologyTests, topologyBroken}
 
 -- each reason has its number, but at 58's place, which has no test
 fifty-all : (d : Delivery) (k : Kind) (i f : ℕ) → any (λ u. not (eqb (numberOf (getD (fiftyReasons d k i f) u LongFile10)) (pick (eqb u 8) 10 (50 + u)))) 10 ≡ false

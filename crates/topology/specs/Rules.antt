@@ -1,8 +1,6 @@
 -- The rules of vertex numbering, line ends and nodes, and objects in use: one test for each of the reasons 50 to 57 and 59, true
 -- where the rule is broken at field f of record i (counted from 0) of file k (document 01, "What the reasons are").
 -- Assumes nothing.
-use Rattle.keys.specs.Groups.{Tests, groupFinding, brokenBy, overFiles}
-use Rattle.record.specs.declared.reason.Finding.{Finding}
 use Prim.Native.Nat.{ℕ, zero, suc, _+_, _-_, _%_, max}
 use mathlib.Core.Bool.{Bool, false, not, _&&_, _||_}
 use mathlib.Core.List.{List, [], _∷_}
@@ -180,19 +178,3 @@ reasonsAt nodes i =
 
 unfoldable pub fiftyReasons : Delivery → Kind → ℕ → ℕ → List Reason
 fiftyReasons d k i f = reasonsAt (d Nodo) i
-
--- the first break of the fifties in file k
-unfoldable pub topologyIn : Delivery → Kind → Finding
-topologyIn d k = groupFinding (fifties d k) (fiftyReasons d k) k (d k .count)
-
--- and in the delivery
-unfoldable pub topologyFinding : Delivery → Finding
-topologyFinding d = overFiles (topologyIn d)
-
--- the tests by the tens of the reason: only the fifties have any here
-abbrev pub topologyTests : Delivery → Kind → ℕ → Tests
-topologyTests d k t i f = pick (eqb t 5) (fifties d k i f) []
-
--- the reason with document 01's number n, of the fifties, is broken at record i, counted from 1, and field f of file k
-unfoldable pub topologyBroken : Delivery → Kind → ℕ → ℕ → ℕ → Bool
-topologyBroken d k n i f = brokenBy (topologyTests d k) k (d k .count) n i f

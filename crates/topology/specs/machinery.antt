@@ -1,5 +1,6 @@
 pub mod Cells
 pub mod Ends
+pub mod Findings
 pub mod Lent
 pub mod Places
 pub mod Tops

@@ -47,11 +47,12 @@ ghost use Rattle.record.specs.Files.{filesOf, deliveryOf};
 ghost use Rattle.record.specs.Says.{tableOf};
 ghost use Rattle.record.specs.Names.{nameAt, keyOf};
 ghost use Rattle.record.specs.machinery.Columns.{Fills};
-ghost use Rattle.keys.specs.Groups.{atFile};
+ghost use Rattle.keys.specs.machinery.Groups.{atFile};
 ghost use Rattle.topology.specs.machinery.Cells.{fiftyTally, fiftyTallies};
 ghost use Rattle.topology.specs.machinery.Places.{orIndex, Positions};
 ghost use Rattle.topology.specs.machinery.Tops.{Tops};
-ghost use Rattle.topology.specs.Rules.{reasonsAt, topologyIn, topologyFinding};
+ghost use Rattle.topology.specs.Rules.{reasonsAt};
+ghost use Rattle.topology.specs.machinery.Findings.{topologyIn, topologyFinding};
 
 // 50 and 51, of the vertices, with their keys in hand.
 fn tally_vertices<'a, 'b>(

@@ -11,9 +11,9 @@ use Rattle.record.specs.declared.reason.Finding.{Finding}
 use Rattle.record.specs.declared.reason.Finding.the-variants.{Fine}
 use Rattle.record.specs.Files.{Files, deliveryOf}
 use Rattle.record.specs.Breaks.{findingOf, shapeFinding, fieldsFinding, broken}
-use Rattle.keys.specs.Groups.{breakIn, overFiles}
-use Rattle.keys.specs.Rules.{keysFinding, keysBroken}
-use Rattle.topology.specs.Rules.{topologyFinding, topologyBroken}
+use Rattle.keys.specs.machinery.Groups.{breakIn, overFiles}
+use Rattle.keys.specs.machinery.Findings.{keysFinding, keysBroken}
+use Rattle.topology.specs.machinery.Findings.{topologyFinding, topologyBroken}
 use Rattle.judge.specs.Broken.{groups}
 
 -- the first break of the reasons of a ten

@@ -18,7 +18,7 @@ use Rattle.record.specs.Table.{keysOf, kinds}
 use Rattle.record.specs.Says.{Table}
 use Rattle.record.specs.Files.{Delivery}
 use Rattle.record.specs.Names.{keyOf}
-use Rattle.keys.specs.Groups.{Tests, cellsOf}
+use Rattle.keys.specs.machinery.Groups.{Tests, cellsOf}
 use Rattle.keys.specs.Rules.{repeats, keyTests}
 
 -- the test of record i at cell c

@@ -6,7 +6,7 @@ use denote.Ref.{now}
 use borrow.Author.Needs.{needs}
 use Rattle.record.specs.Files.{filesOf, deliveryOf}
 use Rattle.record.specs.Table.{fileCount}
-use Rattle.keys.specs.Rules.{keysIn, keysFinding}
+use Rattle.keys.specs.machinery.Findings.{keysIn, keysFinding}
 use Rattle.keys.proofs.OverLaws.{Onward, files-start, files-more, files-here, files-end}
 use Rattle.keys.proofs.group.check_keys.Statement.{statement}
 use Rattle.keys.proofs.group.check_keys.Tie as tie

@@ -5,7 +5,7 @@ use mathlib.Core.List.{map}
 use denote.Ref.{now}
 use Rattle.record.specs.Table.{fileCount}
 use Rattle.record.specs.Files.{filesOf, deliveryOf}
-use Rattle.topology.specs.Rules.{topologyIn, topologyFinding}
+use Rattle.topology.specs.machinery.Findings.{topologyIn, topologyFinding}
 use Rattle.keys.proofs.OverLaws.{Onward, files-start, files-more, files-here, files-end}
 use borrow.Author.Needs.{needs}
 use Rattle.topology.proofs.group.check_topology.Statement.{statement}

@@ -1,4 +1,5 @@
--- The first break of a group of reasons in a file, from tests that give a Bool for each reason of the group at each record and field.
+-- Machinery: the first break of a group of reasons in a file, from tests that give a Bool for each reason of the group at each record and
+-- field. No promise cites this file.
 -- Assumes nothing.
 use Prim.Native.Nat.{ℕ, _+_, _-_, _*_, _/_, _%_}
 use mathlib.Core.Bool.{Bool, false, _&&_}
