@@ -3,3 +3,4 @@ pub mod SignLaws
 pub mod TextLoops
 pub mod DigitLaws
 pub mod TextLaws
+pub mod AtOnceLaws

@@ -2,12 +2,13 @@
 use crate::class::byte;
 ghost use mathlib.Core.Path.{_≡_};
 ghost use mathlib.Core.List.{List};
-ghost use Prim.Native.Nat.{ℕ, _-_, _^_, _<_};
+ghost use Prim.Native.Nat.{ℕ, _+_, _-_, _^_, _≤_, _<_};
 ghost use lib.Dec.{ltb, eqb};
 ghost use lib.IntN.{natAbs};
 ghost use lib.ListN.{length, getD};
 ghost use Rattle.field.specs.Digits.{digits, numberWritten};
 ghost use Rattle.field.specs.Signs.{isNeg, signed, signByte};
+ghost use Rattle.field.specs.machinery.AtOnce.{Under, fourBytes, AtOnce};
 
 const POWERS: [u64; 20] = [
     1,
@@ -79,6 +80,93 @@ pub fn get_number(part: &[u8]) -> u64
         k += 1;
     }
     n
+}
+
+// NUMBERS AT ONCE, of the widths that ids, orders and coordinates have: without a loop. Where no byte is below 48, which is the digit 0, the
+// bytes by their powers of ten are the number and 48 times each power. That none is below is one test: bytes and'ed are at most each of
+// them, and of digits (48 to 57) they are still 48 or more.
+
+// A byte as a number.
+fn size_of(b: u8) -> u64
+    ensures { λ r. ⌜ r ≡ b ⌝ }
+    ensures small { λ r. ⌜ r < 256 ⌝ }
+{
+    b as u64
+}
+
+// At most each of the four bytes from a on.
+fn under_four(t: &[u8], a: usize) -> u8
+    requires { ⌜ a + 4 ≤ length (now t) ⌝ }
+    ensures { λ r. ⌜ Under (now (t .entry)) a r ⌝ }
+{
+    t[a] & t[a + 1] & t[a + 2] & t[a + 3]
+}
+
+// The four bytes from a on, by their powers of ten.
+fn four_bytes(t: &[u8], a: usize) -> u64
+    requires { ⌜ a + 4 ≤ length (now t) ⌝ }
+    ensures { λ r. ⌜ r ≡ fourBytes (now (t .entry)) a ⌝ }
+    ensures small { λ r. ⌜ r < 283306 ⌝ }
+{
+    ((size_of(t[a]) * 10 + size_of(t[a + 1])) * 10 + size_of(t[a + 2])) * 10 + size_of(t[a + 3])
+}
+
+// One more than the number of five digits, as an order has; 0 where a byte is below a digit.
+pub fn five_at_once(t: &[u8]) -> u64
+    requires { ⌜ length (now t) ≡ 5 ⌝ }
+    ensures { λ r. ⌜ AtOnce (now (t .entry)) r ⌝ }
+{
+    if under_four(t, 0) & t[4] < 48 {
+        return 0;
+    }
+    four_bytes(t, 0) * 10 + size_of(t[4]) - 533327
+}
+
+// The same of eight, as Z has,
+pub fn eight_at_once(t: &[u8]) -> u64
+    requires { ⌜ length (now t) ≡ 8 ⌝ }
+    ensures { λ r. ⌜ AtOnce (now (t .entry)) r ⌝ }
+{
+    if under_four(t, 0) & under_four(t, 4) < 48 {
+        return 0;
+    }
+    four_bytes(t, 0) * 10000 + four_bytes(t, 4) - 533333327
+}
+
+// of nine, as X has,
+pub fn nine_at_once(t: &[u8]) -> u64
+    requires { ⌜ length (now t) ≡ 9 ⌝ }
+    ensures { λ r. ⌜ AtOnce (now (t .entry)) r ⌝ }
+{
+    if under_four(t, 0) & under_four(t, 4) & t[8] < 48 {
+        return 0;
+    }
+    (four_bytes(t, 0) * 10000 + four_bytes(t, 4)) * 10 + size_of(t[8]) - 5333333327
+}
+
+// and of ten, as ids and Y have.
+pub fn ten_at_once(t: &[u8]) -> u64
+    requires { ⌜ length (now t) ≡ 10 ⌝ }
+    ensures { λ r. ⌜ AtOnce (now (t .entry)) r ⌝ }
+{
+    if under_four(t, 0) & under_four(t, 4) & t[8] & t[9] < 48 {
+        return 0;
+    }
+    (four_bytes(t, 0) * 10000 + four_bytes(t, 4)) * 100 + size_of(t[8]) * 10 + size_of(t[9]) - 53333333327
+}
+
+// By the width; 0 where it is another.
+pub fn number_at_once(t: &[u8]) -> u64
+    ensures { λ r. ⌜ AtOnce (now (t .entry)) r ⌝ }
+{
+    let w = t.len();
+    match w {
+        5 => five_at_once(t),
+        8 => eight_at_once(t),
+        9 => nine_at_once(t),
+        10 => ten_at_once(t),
+        _ => 0,
+    }
 }
 
 pub fn negative(z: i64) -> bool

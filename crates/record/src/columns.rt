@@ -9,6 +9,7 @@ use crate::kind::LIMIT;
 use field::class::Class;
 use field::class::byte;
 use field::number::get_number;
+use field::number::number_at_once;
 use field::words::word;
 ghost use mathlib.Core.Path.{_≡_};
 ghost use mathlib.Core.Bool.{true};
@@ -86,6 +87,67 @@ pub fn place_in(form: Form, t: &[u8], b: &[u8]) -> u64
         }
         _ => 0,
     }
+}
+
+// THE SAME for a column of a file, mostly at once: without a loop over the digits, where the field has a usual width and no byte below a digit.
+
+// What is said as one number where it is read at once, else 0.
+fn key_at_once(form: Form, t: &[u8]) -> u64
+    ensures { λ r. ⌜ ((r ≡ 0 → ⊥) → r ≡ keyIn (saidAs form (now (t .entry)) [])) ⌝ }
+    ensures small { λ r. ⌜ r ≤ 2 ^ 38 ⌝ }
+{
+    match form {
+        Form::Number => number_at_once(t),
+        _ => 0,
+    }
+}
+
+// As key_in.
+pub fn quick_key(form: Form, t: &[u8]) -> u64
+    ensures { λ r. ⌜ r ≡ keyIn (saidAs form (now (t .entry)) []) ⌝ }
+    ensures narrow { λ r. ⌜ (isN form ≡ true → r ≤ 2 ^ 38) ⌝ }
+{
+    let x = key_at_once(form, t);
+    if x == 0 { key_in(form, t) } else { x }
+}
+
+// As number_in.
+pub fn quick_number(form: Form, t: &[u8]) -> u64
+    ensures { λ r. ⌜ r ≡ numberIn (saidAs form (now (t .entry)) []) ⌝ }
+    ensures small { λ r. ⌜ r < 2 ^ 38 ⌝ }
+{
+    let x = key_at_once(form, t);
+    if x == 0 { number_in(form, t) } else { x - 1 }
+}
+
+// The coordinate as one number where its size is read at once, else 0.
+fn place_at_once(form: Form, t: &[u8], b: &[u8]) -> u64
+    ensures { λ r. ⌜ ((r ≡ 0 → ⊥) → r ≡ placeIn (saidAs form (now (t .entry)) (now (b .entry)))) ⌝ }
+    ensures narrow { λ r. ⌜ r < 2 ^ 40 ⌝ }
+{
+    match form {
+        Form::Size => {
+            let x = number_at_once(t);
+            if x == 0 {
+                return 0;
+            }
+            let n = x - 1;
+            if (byte(b, 0) == 45) & (n != 0) {
+                return n + n;
+            }
+            n + n + 1
+        }
+        _ => 0,
+    }
+}
+
+// As place_in.
+pub fn quick_place(form: Form, t: &[u8], b: &[u8]) -> u64
+    ensures { λ r. ⌜ r ≡ placeIn (saidAs form (now (t .entry)) (now (b .entry))) ⌝ }
+    ensures narrow { λ r. ⌜ r < 2 ^ 40 ⌝ }
+{
+    let x = place_at_once(form, t, b);
+    if x == 0 { place_in(form, t, b) } else { x }
 }
 
 // The field before, and nothing before the first.

@@ -2,7 +2,7 @@
 use crate::kind::Kind;
 ghost use mathlib.Core.Path.{_≡_};
 ghost use mathlib.Core.List.{List};
-ghost use Prim.Native.Nat.{ℕ, _<_, _≤_};
+ghost use Prim.Native.Nat.{ℕ, _+_, _<_, _≤_};
 ghost use lib.ListN.{length, take, drop};
 ghost use Rattle.record.specs.Cut.{countOf, recordOf, textOf};
 
@@ -16,6 +16,15 @@ pub fn part(t: &[u8], a: usize, n: usize) -> &[u8]
     if t.len() - a < n {
         return &t[a..];
     }
+    let e = a + n;
+    &t[a..e]
+}
+
+// The same, where the slice is known to have them.
+pub fn part_there(t: &[u8], a: usize, n: usize) -> &[u8]
+    requires { ⌜ a + n ≤ length (now t) ⌝ }
+    ensures { λ r. ⌜ now r ≡ take n (drop a (now (t .entry))) ⌝ }
+{
     let e = a + n;
     &t[a..e]
 }
