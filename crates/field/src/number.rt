@@ -152,7 +152,8 @@ pub fn ten_at_once(t: &[u8]) -> u64
     if under_four(t, 0) & under_four(t, 4) & t[8] & t[9] < 48 {
         return 0;
     }
-    (four_bytes(t, 0) * 10000 + four_bytes(t, 4)) * 100 + size_of(t[8]) * 10 + size_of(t[9]) - 53333333327
+    (four_bytes(t, 0) * 10000 + four_bytes(t, 4)) * 100 + size_of(t[8]) * 10 + size_of(t[9])
+        - 53333333327
 }
 
 // By the width; 0 where it is another.

@@ -15,8 +15,8 @@ use Rattle.record.specs.declared.kind.Form.{Form}
 use Rattle.record.specs.Table.{limit, lengthOf, keysOf, formAt, offsetAt, widthAt}
 use Rattle.record.specs.Cut.{countOf, recordOf, textOf}
 use Rattle.record.specs.Says.{saidAs, saidIn, tableOf, numberIn, keyIn, placeIn}
-use Rattle.record.proofs.TableLaws.{sane}
-use Rattle.record.proofs.CutLaws.{record-field}
+use Rattle.record.proofs.TableLaws.{sane, within}
+use Rattle.record.proofs.CutLaws.{record-within, record-field}
 use Rattle.record.proofs.SaysLaws.{number-before, key-before}
 use Rattle.record.specs.Names.{nameAt, keyOf}
 use Rattle.record.specs.machinery.Columns.{Fills, ReadInto}
@@ -95,6 +95,10 @@ module _ (s : List ℕ) (k : Kind) {n i : ℕ} (e : n ≡ min limit (countOf s k
 
   pub cut-field : {at : ℕ} → Starts k i at → (f o w : ℕ) (t : List ℕ) → o ≡ offsetAt k f → w ≡ widthAt k f → t ≡ take w (drop (at + o) s) → t ≡ textOf (recordOf s k i) k f
   cut-field h f o w t p q r = r ∙ record-field s k i counted f (h .here) p q
+
+  -- which is there
+  pub cut-room : {at : ℕ} → Starts k i at → (f : ℕ) {o w : ℕ} → o ≡ offsetAt k f → w ≡ widthAt k f → at + o + w ≤ length s
+  cut-room h f p q = omega (arith, h .here, within k f, record-within s k i counted)
 
 -- and what is said there
 module _ (s : List ℕ) (k : Kind) (i f : ℕ) {form : Form} {t : List ℕ} (p : form ≡ formAt k f) (q : t ≡ textOf (recordOf s k i) k f) where

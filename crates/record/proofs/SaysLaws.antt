@@ -18,6 +18,7 @@ use Rattle.field.specs.Bytes.{allOf}
 use Rattle.field.specs.Digits.{numberWritten}
 use Rattle.field.specs.Signs.{signed}
 use Rattle.field.specs.Texts.{trimmed, wordOf}
+use Rattle.field.specs.machinery.AtOnce.{AtOnce}
 use Rattle.field.proofs.DigitLaws.{blank-number}
 use Rattle.field.proofs.TextLaws.{trimmed-first, trimmed-some}
 use Rattle.record.specs.declared.kind.Form.{Form}
@@ -160,6 +161,16 @@ module _ (t b : List ℕ) where
   letter-text form h m =
       let w = text-there form h m in
       sym (trimmed-first t (trimmed-some t (w .0))) ∙ ap letterIn (sym (w .1))
+
+  -- READ AT ONCE: what is not 0 is said, as a number
+  pub number-once : (form : Form) → form ≡ Number → {r : ℕ} → AtOnce t r → (r ≡ 0 → ⊥) → (r ≡ keyIn (saidAs form t b)) × (r ≡ numberIn (saidAs form t b) + 1)
+  unfolding saidAs
+  number-once form e h z = (h .number z ∙ rw (e, h .there z), h .number z ∙ rw (e, h .there z))
+
+  -- or as a size
+  pub size-once : (form : Form) → form ≡ Size → {r : ℕ} → AtOnce t r → (r ≡ 0 → ⊥) → isMissing (saidAs form t b) ≡ false
+  unfolding saidAs
+  size-once form e h z = rw (e, h .there z)
 
 -- THE FIELD BEFORE matters to none that has the same of every coordinate
 said-before : {A : Type 0} (g : Said → A) → ((y z : ℤ) → g (coordinate y) ≡ g (coordinate z)) → (form : Form) (t b c : List ℕ) → g (saidAs form t b) ≡ g (saidAs form t c)

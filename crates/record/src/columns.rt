@@ -93,7 +93,7 @@ pub fn place_in(form: Form, t: &[u8], b: &[u8]) -> u64
 
 // What is said as one number where it is read at once, else 0.
 fn key_at_once(form: Form, t: &[u8]) -> u64
-    ensures { λ r. ⌜ ((r ≡ 0 → ⊥) → r ≡ keyIn (saidAs form (now (t .entry)) [])) ⌝ }
+    ensures { λ r. ⌜ ((r ≡ 0 → ⊥) → (r ≡ keyIn (saidAs form (now (t .entry)) [])) × (r ≡ numberIn (saidAs form (now (t .entry)) []) + 1)) ⌝ }
     ensures small { λ r. ⌜ r ≤ 2 ^ 38 ⌝ }
 {
     match form {

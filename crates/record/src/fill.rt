@@ -1,11 +1,11 @@
 // Columns of names, keys and places, read once into lent room. Where the room is too short for the file's records, none is read.
 //
 // Where a field stands in its record is looked up once for a column, and not once for a record: `at` is where the record in hand starts.
-use crate::columns::key_in;
-use crate::columns::number_in;
-use crate::columns::place_in;
+use crate::columns::quick_key;
+use crate::columns::quick_number;
+use crate::columns::quick_place;
 use crate::columns::rows;
-use crate::cut::part;
+use crate::cut::part_there;
 use crate::kind::Kind;
 use crate::names::name;
 ghost use mathlib.Core.Path.{_≡_};
@@ -38,7 +38,7 @@ pub fn fill_names(s: &[u8], k: Kind, f: usize, out: &mut [u64]) -> usize
     let mut at = 0;
     let mut i = 0;
     while i < n {
-        let x = key_in(form, part(s, at + offset, width));
+        let x = quick_key(form, part_there(s, at + offset, width));
         out[i] = name_by(s, k, i, f, x);
         at += k.length();
         i += 1;
@@ -64,8 +64,8 @@ fn fill_pair_keys(s: &[u8], k: Kind, out: &mut [u64]) -> usize
     let mut at = 0;
     let mut i = 0;
     while i < n {
-        let line = key_in(form, part(s, at + offset, width));
-        let order = number_in(order_form, part(s, at + order_offset, order_width));
+        let line = quick_key(form, part_there(s, at + offset, width));
+        let order = quick_number(order_form, part_there(s, at + order_offset, order_width));
         out[i] = line * 100000 + order;
         at += k.length();
         i += 1;
@@ -109,8 +109,8 @@ pub fn fill_places(s: &[u8], k: Kind, f: usize, out: &mut [u64]) -> usize
     let mut at = 0;
     let mut i = 0;
     while i < n {
-        let b = part(s, at + sign, sign_width);
-        out[i] = place_in(form, part(s, at + offset, width), b);
+        let b = part_there(s, at + sign, sign_width);
+        out[i] = quick_place(form, part_there(s, at + offset, width), b);
         at += k.length();
         i += 1;
     }

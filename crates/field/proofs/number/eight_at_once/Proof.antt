@@ -1,46 +1,35 @@
+-- `field::number::eight_at_once` meets its contract: the sum of the bytes is the number with 48 times each power.
+-- Assumes nothing.
 use native.Mathlib.Omega.{arith}
 use Rattle.field.proofs.AtOnceLaws.{eight-sum, at-once-none, at-once}
 use borrow.Author.Needs.{needs}
 use Rattle.field.proofs.number.eight_at_once.Statement.{statement}
 use Rattle.field.proofs.number.eight_at_once.Tie as tie
-use Rattle.field.proofs.number.eight_at_once.Reads as reads
-use Rattle.field.proofs.number.eight_at_once.Lts as lts
-use Rattle.field.proofs.number.four_bytes.Reads as four-bytes-reads
-use Rattle.field.proofs.number.under_four.Reads as under-four-reads
 
--- src/number.rt:130:8
 under-four-requires : tie.Need-under-four-requires
 under-four-requires c κs = search needs
 
--- src/number.rt:130:27
 under-four-requires-2 : tie.Need-under-four-requires-2
 under-four-requires-2 c κs = search needs
 
--- src/number.rt:131:9
 returns : tie.Need-returns
 returns c = at-once-none _
 
--- src/number.rt:133:5
 four-bytes-requires : tie.Need-four-bytes-requires
 four-bytes-requires c κs = search needs
 
--- src/number.rt:133:5
 mul-result : tie.Need-mul-result
 mul-result c = search needs
 
--- src/number.rt:133:32
 four-bytes-requires-2 : tie.Need-four-bytes-requires-2
 four-bytes-requires-2 c κs = search needs
 
--- src/number.rt:133:5
 add-result : tie.Need-add-result
 add-result c = search needs
 
--- src/number.rt:133:5
 sub-result : tie.Need-sub-result
 sub-result c = let h = eight-sum (c .before .before .before .before .under-four .ensures) (c .before .before .before .under-four2 .ensures) (omega arith) in omega arith
 
--- src/number.rt:126:1
 returns-2 : tie.Need-returns-2
 returns-2 c = let h = eight-sum (c .before .before .before .before .under-four .ensures) (c .before .before .before .under-four2 .ensures) (omega arith) in at-once 8 (c .before .before .before .before .before .before .pre) (omega arith) (omega arith) (h .0) (omega arith) (omega arith)
 

@@ -5,7 +5,7 @@ use native.Mathlib.Omega.{arith}
 use borrow.Author.Needs.{needs}
 use Rattle.record.specs.Says.{tableOf}
 use Rattle.record.specs.Names.{nameAt}
-use Rattle.record.proofs.ColumnLaws.{Filling, filling-none, filling-more, filling-all, read-none, Starts, starts-first, starts-next, cut-field, key-cut}
+use Rattle.record.proofs.ColumnLaws.{Filling, filling-none, filling-more, filling-all, read-none, Starts, starts-first, starts-next, cut-field, cut-room, key-cut}
 use Rattle.record.proofs.fill.fill_names.Statement.{statement}
 use Rattle.record.proofs.fill.fill_names.Tie as tie
 
@@ -35,14 +35,14 @@ width-requires c κs = search needs
 loop-holds : tie.Need-loop-holds Inv-loop μ-loop
 loop-holds c = (filling-none _ _, starts-first _)
 
-add-part : tie.Need-add-part Inv-loop μ-loop
-add-part c = search needs
+add-part-there : tie.Need-add-part-there Inv-loop μ-loop
+add-part-there c = search needs
 
-part-requires : tie.Need-part-requires Inv-loop μ-loop
-part-requires c κs = search needs
+part-there-requires : tie.Need-part-there-requires Inv-loop μ-loop
+part-there-requires c κs = cut-room _ _ (c .before .before .before .before .before .before .rows .ensures .0) (c .loop-test .taken) (c .before .loop .inv .1) _ (c .before .before .before .offset .ensures .0) (c .before .before .width .ensures .0)
 
-key-in-requires : tie.Need-key-in-requires Inv-loop μ-loop
-key-in-requires c κs = search needs
+quick-key-requires : tie.Need-quick-key-requires Inv-loop μ-loop
+quick-key-requires c κs = search needs
 
 name-by-requires : tie.Need-name-by-requires Inv-loop μ-loop
 name-by-requires c κs =
@@ -50,8 +50,8 @@ name-by-requires c κs =
     let d = t .before in
     let w = d .before in
     let o = w .before in
-    let cut = cut-field _ _ (o .before .before .before .rows .ensures .0) (t .loop-test .taken) (d .loop .inv .1) _ _ _ _ (o .offset .ensures .0) (w .width .ensures .0) (c .before .part .ensures) in
-    key-cut _ _ _ _ (o .before .form .ensures) cut (c .key-in .ensures .0)
+    let cut = cut-field _ _ (o .before .before .before .rows .ensures .0) (t .loop-test .taken) (d .loop .inv .1) _ _ _ _ (o .offset .ensures .0) (w .width .ensures .0) (c .before .part-there .ensures) in
+    key-cut _ _ _ _ (o .before .form .ensures) cut (c .quick-key .ensures .0)
 
 mul-out : tie.Need-mul-out Inv-loop μ-loop
 mul-out c = search needs
@@ -103,9 +103,9 @@ fill-names-spec =
     offset-requires
     width-requires
     loop-holds
-    add-part
-    part-requires
-    key-in-requires
+    add-part-there
+    part-there-requires
+    quick-key-requires
     name-by-requires
     mul-out
     slice-write-out

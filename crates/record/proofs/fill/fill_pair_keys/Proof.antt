@@ -9,7 +9,7 @@ use Rattle.record.specs.Says.{tableOf}
 use Rattle.record.specs.Names.{keyOf}
 use Rattle.record.proofs.TableLaws.{pair-key}
 use Rattle.record.proofs.NameLaws.{key-pair, pair-name}
-use Rattle.record.proofs.ColumnLaws.{Filling, filling-none, filling-more, filling-all, read-none, Starts, starts-first, starts-next, cut-field, key-cut, number-cut}
+use Rattle.record.proofs.ColumnLaws.{Filling, filling-none, filling-more, filling-all, read-none, Starts, starts-first, starts-next, cut-field, cut-room, key-cut, number-cut}
 use Rattle.record.proofs.fill.fill_pair_keys.Statement.{statement}
 use Rattle.record.proofs.fill.fill_pair_keys.Tie as tie
 
@@ -48,30 +48,30 @@ width-requires-2 c κs = search needs
 loop-holds : tie.Need-loop-holds Inv-loop μ-loop
 loop-holds c = (filling-none _ _, starts-first _)
 
-add-part : tie.Need-add-part Inv-loop μ-loop
-add-part c = search needs
+add-part-there : tie.Need-add-part-there Inv-loop μ-loop
+add-part-there c = search needs
 
-part-requires : tie.Need-part-requires Inv-loop μ-loop
-part-requires c κs = search needs
+part-there-requires : tie.Need-part-there-requires Inv-loop μ-loop
+part-there-requires c κs = cut-room _ _ (c .before .before .before .before .before .before .before .before .before .rows .ensures .0) (c .loop-test .taken) (c .before .loop .inv .1) 1 (c .before .before .before .before .before .before .offset .ensures .0) (c .before .before .before .before .before .width .ensures .0)
 
-key-in-requires : tie.Need-key-in-requires Inv-loop μ-loop
-key-in-requires c κs = search needs
+quick-key-requires : tie.Need-quick-key-requires Inv-loop μ-loop
+quick-key-requires c κs = search needs
 
-add-part-2 : tie.Need-add-part-2 Inv-loop μ-loop
-add-part-2 c = search needs
+add-part-there-2 : tie.Need-add-part-there-2 Inv-loop μ-loop
+add-part-there-2 c = search needs
 
-part-requires-2 : tie.Need-part-requires-2 Inv-loop μ-loop
-part-requires-2 c κs = search needs
+part-there-requires-2 : tie.Need-part-there-requires-2 Inv-loop μ-loop
+part-there-requires-2 c κs = cut-room _ _ (c .before .before .before .before .before .before .before .before .before .before .before .rows .ensures .0) (c .before .before .loop-test .taken) (c .before .before .before .loop .inv .1) 2 (c .before .before .before .before .before .offset2 .ensures .0) (c .before .before .before .before .width2 .ensures .0)
 
-number-in-requires : tie.Need-number-in-requires Inv-loop μ-loop
-number-in-requires c κs = search needs
+quick-number-requires : tie.Need-quick-number-requires Inv-loop μ-loop
+quick-number-requires c κs = search needs
 
 mul-out : tie.Need-mul-out Inv-loop μ-loop
 mul-out c =
     let d = c .before .before .before .before .before in
     let o = d .before .before .before .before .before .before in
     let b = o .before .before .before .before .before in
-    let h = c .before .before .key-in .ensures .1 (ap isN (o .form .ensures) ∙ pair-key (b .args .k) (b .pre) .0) in
+    let h = c .before .before .quick-key .ensures .1 (ap isN (o .form .ensures) ∙ pair-key (b .args .k) (b .pre) .0) in
     omega arith
 
 add-out : tie.Need-add-out Inv-loop μ-loop
@@ -79,7 +79,7 @@ add-out c =
     let d = c .before .before .before .before .before in
     let o = d .before .before .before .before .before .before in
     let b = o .before .before .before .before .before in
-    let h = c .before .before .key-in .ensures .1 (ap isN (o .form .ensures) ∙ pair-key (b .args .k) (b .pre) .0) in
+    let h = c .before .before .quick-key .ensures .1 (ap isN (o .form .ensures) ∙ pair-key (b .args .k) (b .pre) .0) in
     omega arith
 
 mul-out-2 : tie.Need-mul-out-2 Inv-loop μ-loop
@@ -114,10 +114,10 @@ loop-again c =
     let e = o .before .before in
     let two = e .before .before .before .before .pre in
     let cut = cut-field _ _ (e .before .rows .ensures .0) (t .loop-test .taken) (d .loop .inv .1) in
-    let line-text = cut 1 _ _ _ (o .offset .ensures .0) (w .width .ensures .0) (x .before .part .ensures) in
-    let order-text = cut 2 _ _ _ (y .offset2 .ensures .0) (d .before .width2 .ensures .0) (c .before .before .part2 .ensures) in
-    let line = key-cut _ _ _ 1 (o .before .form .ensures) line-text (x .key-in .ensures .0) in
-    let order = number-cut _ _ _ 2 (y .before .form2 .ensures) order-text (c .before .number-in .ensures .0) in (
+    let line-text = cut 1 _ _ _ (o .offset .ensures .0) (w .width .ensures .0) (x .before .part-there .ensures) in
+    let order-text = cut 2 _ _ _ (y .offset2 .ensures .0) (d .before .width2 .ensures .0) (c .before .before .part-there2 .ensures) in
+    let line = key-cut _ _ _ 1 (o .before .form .ensures) line-text (x .quick-key .ensures .0) in
+    let order = number-cut _ _ _ 2 (y .before .form2 .ensures) order-text (c .before .quick-number .ensures .0) in (
       filling-more (d .loop .inv .0) (e .if1 .left) (t .loop-test .taken) (key-pair _ _ _ two (pair-name _ _ _ two line) order),
       starts-next (d .loop .inv .1) (c .length .ensures),
     )
@@ -146,12 +146,12 @@ fill-pair-keys-spec =
     offset-requires-2
     width-requires-2
     loop-holds
-    add-part
-    part-requires
-    key-in-requires
-    add-part-2
-    part-requires-2
-    number-in-requires
+    add-part-there
+    part-there-requires
+    quick-key-requires
+    add-part-there-2
+    part-there-requires-2
+    quick-number-requires
     mul-out
     add-out
     mul-out-2

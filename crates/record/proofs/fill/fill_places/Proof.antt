@@ -8,7 +8,7 @@ use native.Mathlib.Omega.{arith}
 use borrow.Author.Needs.{needs}
 use Rattle.record.specs.Table.{offsetAt, widthAt}
 use Rattle.record.specs.Says.{tableOf, placeIn}
-use Rattle.record.proofs.ColumnLaws.{Filling, filling-none, filling-more, filling-all, read-none, Starts, starts-first, starts-next, cut-field, place-cut}
+use Rattle.record.proofs.ColumnLaws.{Filling, filling-none, filling-more, filling-all, read-none, Starts, starts-first, starts-next, cut-field, cut-room, place-cut}
 use Rattle.record.proofs.fill.fill_places.Statement.{statement}
 use Rattle.record.proofs.fill.fill_places.Tie as tie
 
@@ -47,20 +47,20 @@ width-requires-2 c κs = search needs
 loop-holds : tie.Need-loop-holds Inv-loop μ-loop
 loop-holds c = (filling-none _ _, starts-first _, narrow-start _ _)
 
-add-part : tie.Need-add-part Inv-loop μ-loop
-add-part c = search needs
+add-part-there : tie.Need-add-part-there Inv-loop μ-loop
+add-part-there c = search needs
 
-part-requires : tie.Need-part-requires Inv-loop μ-loop
-part-requires c κs = search needs
+part-there-requires : tie.Need-part-there-requires Inv-loop μ-loop
+part-there-requires c κs = cut-room _ _ (c .before .before .before .before .before .before .before .before .before .rows .ensures .0) (c .loop-test .taken) (c .before .loop .inv .1) _ (c .before .before .before .offset2 .ensures .0) (c .before .before .width2 .ensures .0)
 
-add-part-2 : tie.Need-add-part-2 Inv-loop μ-loop
-add-part-2 c = search needs
+add-part-there-2 : tie.Need-add-part-there-2 Inv-loop μ-loop
+add-part-there-2 c = search needs
 
-part-requires-2 : tie.Need-part-requires-2 Inv-loop μ-loop
-part-requires-2 c κs = search needs
+part-there-requires-2 : tie.Need-part-there-requires-2 Inv-loop μ-loop
+part-there-requires-2 c κs = cut-room _ _ (c .before .before .before .before .before .before .before .before .before .before .rows .ensures .0) (c .before .loop-test .taken) (c .before .before .loop .inv .1) _ (c .before .before .before .before .before .before .offset .ensures .0) (c .before .before .before .before .before .width .ensures .0)
 
-place-in-requires : tie.Need-place-in-requires Inv-loop μ-loop
-place-in-requires c κs = search needs
+quick-place-requires : tie.Need-quick-place-requires Inv-loop μ-loop
+quick-place-requires c κs = search needs
 
 mul-out : tie.Need-mul-out Inv-loop μ-loop
 mul-out c = search needs
@@ -93,14 +93,14 @@ loop-again c =
     let g = o .before .before in
     let e = g .before in
     let cut = cut-field _ _ (e .before .rows .ensures .0) (t .loop-test .taken) (d .loop .inv .1) in
-    let size = cut _ _ _ _ (o .offset .ensures .0) (w .width .ensures .0) (p .part2 .ensures) in
+    let size = cut _ _ _ _ (o .offset .ensures .0) (w .width .ensures .0) (p .part-there2 .ensures) in
     let sign =
     cut _ _ _ _ (d .before .before .offset2 .ensures .0 ∙ ap (offsetAt _) (g .sign-field .ensures))
     (d .before .width2 .ensures .0 ∙ ap (widthAt _) (g .sign-field .ensures))
-    (p .before .part .ensures) in (
-      filling-more (d .loop .inv .0) (e .if1 .left) (t .loop-test .taken) (place-cut _ _ _ _ (o .before .form .ensures) size sign (c .before .place-in .ensures .0)),
+    (p .before .part-there .ensures) in (
+      filling-more (d .loop .inv .0) (e .if1 .left) (t .loop-test .taken) (place-cut _ _ _ _ (o .before .form .ensures) size sign (c .before .quick-place .ensures .0)),
       starts-next (d .loop .inv .1) (c .length .ensures),
-      narrow-more (search needs) (c .before .place-in .ensures .1) (d .loop .inv .2),
+      narrow-more (search needs) (c .before .quick-place .ensures .1) (d .loop .inv .2),
     )
 
 same-length : tie.Need-same-length Inv-loop μ-loop
@@ -129,11 +129,11 @@ fill-places-spec =
     offset-requires-2
     width-requires-2
     loop-holds
-    add-part
-    part-requires
-    add-part-2
-    part-requires-2
-    place-in-requires
+    add-part-there
+    part-there-requires
+    add-part-there-2
+    part-there-requires-2
+    quick-place-requires
     mul-out
     slice-write-out
     length-requires
