@@ -112,7 +112,7 @@ fn four_bytes(t: &[u8], a: usize) -> u64
 }
 
 // One more than the number of five digits, as an order has; 0 where a byte is below a digit.
-pub fn five_at_once(t: &[u8]) -> u64
+fn five_at_once(t: &[u8]) -> u64
     requires { ⌜ length (now t) ≡ 5 ⌝ }
     ensures { λ r. ⌜ AtOnce (now (t .entry)) r ⌝ }
 {
@@ -123,7 +123,7 @@ pub fn five_at_once(t: &[u8]) -> u64
 }
 
 // The same of eight, as Z has,
-pub fn eight_at_once(t: &[u8]) -> u64
+fn eight_at_once(t: &[u8]) -> u64
     requires { ⌜ length (now t) ≡ 8 ⌝ }
     ensures { λ r. ⌜ AtOnce (now (t .entry)) r ⌝ }
 {
@@ -134,7 +134,7 @@ pub fn eight_at_once(t: &[u8]) -> u64
 }
 
 // of nine, as X has,
-pub fn nine_at_once(t: &[u8]) -> u64
+fn nine_at_once(t: &[u8]) -> u64
     requires { ⌜ length (now t) ≡ 9 ⌝ }
     ensures { λ r. ⌜ AtOnce (now (t .entry)) r ⌝ }
 {
@@ -145,7 +145,7 @@ pub fn nine_at_once(t: &[u8]) -> u64
 }
 
 // and of ten, as ids and Y have.
-pub fn ten_at_once(t: &[u8]) -> u64
+fn ten_at_once(t: &[u8]) -> u64
     requires { ⌜ length (now t) ≡ 10 ⌝ }
     ensures { λ r. ⌜ AtOnce (now (t .entry)) r ⌝ }
 {

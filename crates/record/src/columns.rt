@@ -103,7 +103,7 @@ fn key_at_once(form: Form, t: &[u8]) -> u64
 }
 
 // As key_in.
-pub fn quick_key(form: Form, t: &[u8]) -> u64
+pub(crate) fn quick_key(form: Form, t: &[u8]) -> u64
     ensures { λ r. ⌜ r ≡ keyIn (saidAs form (now (t .entry)) []) ⌝ }
     ensures narrow { λ r. ⌜ (isN form ≡ true → r ≤ 2 ^ 38) ⌝ }
 {
@@ -112,7 +112,7 @@ pub fn quick_key(form: Form, t: &[u8]) -> u64
 }
 
 // As number_in.
-pub fn quick_number(form: Form, t: &[u8]) -> u64
+pub(crate) fn quick_number(form: Form, t: &[u8]) -> u64
     ensures { λ r. ⌜ r ≡ numberIn (saidAs form (now (t .entry)) []) ⌝ }
     ensures small { λ r. ⌜ r < 2 ^ 38 ⌝ }
 {
@@ -142,7 +142,7 @@ fn place_at_once(form: Form, t: &[u8], b: &[u8]) -> u64
 }
 
 // As place_in.
-pub fn quick_place(form: Form, t: &[u8], b: &[u8]) -> u64
+pub(crate) fn quick_place(form: Form, t: &[u8], b: &[u8]) -> u64
     ensures { λ r. ⌜ r ≡ placeIn (saidAs form (now (t .entry)) (now (b .entry))) ⌝ }
     ensures narrow { λ r. ⌜ r < 2 ^ 40 ⌝ }
 {

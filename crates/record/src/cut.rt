@@ -21,7 +21,7 @@ pub fn part(t: &[u8], a: usize, n: usize) -> &[u8]
 }
 
 // The same, where the slice is known to have them.
-pub fn part_there(t: &[u8], a: usize, n: usize) -> &[u8]
+pub(crate) fn part_there(t: &[u8], a: usize, n: usize) -> &[u8]
     requires { ⌜ a + n ≤ length (now t) ⌝ }
     ensures { λ r. ⌜ now r ≡ take n (drop a (now (t .entry))) ⌝ }
 {
