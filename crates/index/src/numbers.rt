@@ -23,7 +23,7 @@ fn or_zero(found: Found) -> u64
 }
 
 // For each of the first `n` keys the record that a look-up of it finds, which is the same for equal keys.
-pub fn fill_numbers<'a>(
+pub(crate) fn fill_numbers<'a>(
     keys: &'a [u64],
     order: &'a [usize],
     hints: &'a [u16],
