@@ -1,9 +1,10 @@
 //! A whole delivery taken apart, with what the later rules need of it.
-//! Every record is parsed once, here.
+//! Every lawful record is parsed once, here.
 
+use crate::breaks::{broken, Listener};
+use crate::codec::Refusal;
 use crate::layout::LENGTHS;
-use crate::record::{parse, Cells, Code};
-use crate::verdict::{broken, Break};
+use crate::record::{check, parse, Cells, Code};
 
 pub(crate) struct Entry {
     pub code: Code,
@@ -67,29 +68,49 @@ pub(crate) struct Delivery {
 }
 
 impl Delivery {
-    /// Takes all records apart, or tells the first break of the twenties.
-    pub fn parse(files: [&[u8]; 7]) -> Result<Delivery, Break> {
+    /// Takes all records apart, and tells the breaks of the twenties. A record
+    /// that has one is left out.
+    pub fn parse<L: Listener>(files: [&[u8]; 7], listener: &mut L) -> Result<Delivery, L::Stop> {
         Ok(Delivery {
-            entries: records(1, files[0], entry)?,
-            points: records(2, files[1], point)?,
-            labels: records(3, files[2], label)?,
-            linears: records(4, files[3], linear)?,
-            tramos: records(5, files[4], tramo)?,
-            vertices: records(6, files[5], vertex)?,
-            nodes: records(7, files[6], node)?,
+            entries: records(1, files[0], entry, listener)?,
+            points: records(2, files[1], point, listener)?,
+            labels: records(3, files[2], label, listener)?,
+            linears: records(4, files[3], linear, listener)?,
+            tramos: records(5, files[4], tramo, listener)?,
+            vertices: records(6, files[5], vertex, listener)?,
+            nodes: records(7, files[6], node, listener)?,
         })
     }
 }
 
-fn records<T>(file: usize, bytes: &[u8], make: impl Fn(&Cells) -> T) -> Result<Vec<T>, Break> {
+fn records<T, L: Listener>(
+    file: usize,
+    bytes: &[u8],
+    make: impl Fn(&Cells) -> T,
+    listener: &mut L,
+) -> Result<Vec<T>, L::Stop> {
     let chunks = bytes.chunks_exact(LENGTHS[file - 1]);
     let mut made = Vec::with_capacity(chunks.len());
     for (i, record) in chunks.enumerate() {
-        let cells = parse(file, record)
-            .map_err(|refusal| broken(refusal.reason, (file, i, refusal.field), 0))?;
-        made.push(make(&cells));
+        match parse(file, record) {
+            Ok(cells) => made.push(make(&cells)),
+            Err(_) => tell_all(file, i, record, listener)?,
+        }
     }
     Ok(made)
+}
+
+/// Reads a broken record once more, for all of its breaks. So the many lawful
+/// ones are read by a search that knows no listener.
+fn tell_all<L: Listener>(
+    file: usize,
+    i: usize,
+    record: &[u8],
+    listener: &mut L,
+) -> Result<(), L::Stop> {
+    let tell =
+        |refusal: Refusal| listener.hear(broken(refusal.reason, (file, i, refusal.field), 0));
+    check(file, record, tell).map(|_| ())
 }
 
 fn entry(cells: &Cells) -> Entry {

@@ -3,9 +3,9 @@
 use std::collections::HashMap;
 use std::hash::Hash;
 
+use crate::breaks::{broken, told, Listener};
 use crate::delivery::Delivery;
 use crate::record::Code;
-use crate::verdict::{broken, told, Break};
 
 /// Places of records in their files, counted from 0, by key.
 pub(crate) struct Keys {
@@ -17,15 +17,16 @@ pub(crate) struct Keys {
 }
 
 impl Keys {
-    /// Gathers all keys, or tells the first that an earlier record has too.
-    pub fn gather(delivery: &Delivery) -> Result<Keys, Break> {
-        let codes = by_key(1, 1, delivery.entries.iter().map(|e| e.code))?;
-        by_key(2, 1, delivery.points.iter().map(|p| p.id))?;
-        by_key(3, 1, delivery.labels.iter().map(|l| l.id))?;
-        let linears = by_key(4, 1, delivery.linears.iter().map(|l| l.id))?;
-        by_key(5, 1, delivery.tramos.iter().map(|t| t.id))?;
-        let vertices = by_key(6, 2, delivery.vertices.iter().map(|v| (v.line, v.order)))?;
-        let nodes = by_key(7, 1, delivery.nodes.iter().map(|n| n.id))?;
+    /// Gathers all keys, and tells each that an earlier record has too.
+    pub fn gather<L: Listener>(delivery: &Delivery, listener: &mut L) -> Result<Keys, L::Stop> {
+        let codes = by_key(1, 1, delivery.entries.iter().map(|e| e.code), listener)?;
+        by_key(2, 1, delivery.points.iter().map(|p| p.id), listener)?;
+        by_key(3, 1, delivery.labels.iter().map(|l| l.id), listener)?;
+        let linears = by_key(4, 1, delivery.linears.iter().map(|l| l.id), listener)?;
+        by_key(5, 1, delivery.tramos.iter().map(|t| t.id), listener)?;
+        let orders = delivery.vertices.iter().map(|v| (v.line, v.order));
+        let vertices = by_key(6, 2, orders, listener)?;
+        let nodes = by_key(7, 1, delivery.nodes.iter().map(|n| n.id), listener)?;
         Ok(Keys {
             codes,
             linears,
@@ -35,16 +36,18 @@ impl Keys {
     }
 }
 
-fn by_key<K: Eq + Hash>(
+fn by_key<K: Eq + Hash, L: Listener>(
     file: usize,
     field: usize,
     keys: impl ExactSizeIterator<Item = K>,
-) -> Result<HashMap<K, usize>, Break> {
+    listener: &mut L,
+) -> Result<HashMap<K, usize>, L::Stop> {
     let mut places = HashMap::with_capacity(keys.len());
     for (i, key) in keys.enumerate() {
-        // The first that comes again has come once before, so this is the one.
+        // What is in the map is the last record before with this key; the
+        // first that comes again has come once before, so it is the only one.
         if let Some(earlier) = places.insert(key, i) {
-            return Err(broken(30, (file, i, field), told(earlier)));
+            listener.hear(broken(30, (file, i, field), told(earlier)))?;
         }
     }
     Ok(places)

@@ -1,10 +1,11 @@
 //! A second checker and codec for MIGRA v1 map deliveries.
 //!
-//! It is written from document 01 alone, and exists to be compared byte for
-//! byte with the proved library: the same files, records and values go to
-//! both, and both must say the same. So it shares no code with that library
-//! and is built in another way, over the hash maps of the standard library
-//! and with no proofs. It is also the baseline of the benchmark.
+//! It is written from document 01 and request W-201 of document 02 alone, and
+//! exists to be compared byte for byte with the proved library: the same
+//! files, records and values go to both, and both must say the same. So it
+//! shares no code with that library and is built in another way, over the
+//! hash maps of the standard library and with no proofs. It is also the
+//! baseline of the benchmark.
 //!
 //! Files, records and fields are counted from 1 everywhere, as in the
 //! document. No call panics, whatever its bytes or numbers are.
@@ -12,15 +13,20 @@
 #![forbid(unsafe_code)]
 #![warn(missing_docs)]
 
+mod breaks;
 mod codec;
 mod delivery;
+mod grid;
 mod keys;
 mod layout;
 mod record;
 mod references;
+mod rules;
 mod topology;
 mod verdict;
 
+pub use breaks::Break;
 pub use codec::{read, write, Refusal, Value};
+pub use grid::{add, grid, Grid};
 pub use layout::{field_name, fields, form, width, Form, LENGTHS, NAMES};
-pub use verdict::{counts, judge, line, program_line, Break, Verdict};
+pub use verdict::{counts, judge, line, program_line, Verdict};

@@ -81,11 +81,19 @@ impl<'a> Cells<'a> {
 /// Takes one record apart, or tells its first break by field and reason.
 /// `record` has exactly the file's record length.
 pub(crate) fn parse(file: usize, record: &[u8]) -> Result<Cells<'_>, Refusal> {
+    check(file, record, Err)
+}
+
+/// Takes one record apart and tells its breaks by field and reason, until
+/// `tell` stops it.
+pub(crate) fn check<S>(
+    file: usize,
+    record: &[u8],
+    mut tell: impl FnMut(Refusal) -> Result<(), S>,
+) -> Result<Cells<'_>, S> {
+    let mut refuse = |reason, field| tell(Refusal { reason, field });
     if !record.ends_with(b"\r\n") {
-        return Err(Refusal {
-            reason: 20,
-            field: 0,
-        });
+        refuse(20, 0)?;
     }
     let fields = layout(file);
     let cells = split(fields, record);
@@ -94,10 +102,10 @@ pub(crate) fn parse(file: usize, record: &[u8]) -> Result<Cells<'_>, Refusal> {
         end += field.width;
         let field = i + 1;
         if field < fields.len() && record[end] != b'|' {
-            return Err(Refusal { reason: 21, field });
+            refuse(21, field)?;
         }
         if let Some(reason) = broken(fields, &cells, i) {
-            return Err(Refusal { reason, field });
+            refuse(reason, field)?;
         }
         end += 1;
     }

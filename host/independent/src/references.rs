@@ -2,69 +2,76 @@
 
 use std::collections::HashSet;
 
+use crate::breaks::{broken, Listener, Place};
 use crate::delivery::{Delivery, Tramo};
 use crate::keys::Keys;
 use crate::record::Code;
 use crate::topology::Lines;
-use crate::verdict::{broken, ensure, Break, Place};
 
 /// Reads every reference in the order of file, record and field, so that the
-/// first break met is the first there is.
-pub(crate) fn check(delivery: &Delivery, keys: &Keys, lines: &Lines) -> Result<(), Break> {
+/// first break told is the first there is.
+pub(crate) fn check<L: Listener>(
+    delivery: &Delivery,
+    keys: &Keys,
+    lines: &Lines,
+    listener: &mut L,
+) -> Result<(), L::Stop> {
     for (i, point) in delivery.points.iter().enumerate() {
-        ensure(point.composite.is_none(), 40, (2, i, 2))?;
+        listener.ensure(point.composite.is_none(), 40, (2, i, 2))?;
         let known = point.node.map_or(true, |id| keys.nodes.contains_key(&id));
-        ensure(known, 40, (2, i, 3))?;
-        check_code(delivery, keys, &point.code, b'P', (2, i, 4))?;
+        listener.ensure(known, 40, (2, i, 3))?;
+        check_code(delivery, keys, &point.code, b'P', (2, i, 4), listener)?;
     }
     for (i, label) in delivery.labels.iter().enumerate() {
-        ensure(label.composite.is_none(), 40, (3, i, 2))?;
-        check_code(delivery, keys, &label.code, b'X', (3, i, 3))?;
+        listener.ensure(label.composite.is_none(), 40, (3, i, 2))?;
+        check_code(delivery, keys, &label.code, b'X', (3, i, 3), listener)?;
     }
     for (i, linear) in delivery.linears.iter().enumerate() {
-        ensure(linear.composite.is_none(), 40, (4, i, 2))?;
-        check_code(delivery, keys, &linear.code, b'L', (4, i, 3))?;
+        listener.ensure(linear.composite.is_none(), 40, (4, i, 2))?;
+        check_code(delivery, keys, &linear.code, b'L', (4, i, 3), listener)?;
     }
     for (i, tramo) in delivery.tramos.iter().enumerate() {
-        check_tramo(delivery, keys, lines, i, tramo)?;
+        check_tramo(delivery, keys, lines, i, tramo, listener)?;
     }
     let used: HashSet<u64> = delivery.tramos.iter().map(|t| t.line).collect();
     for (i, vertex) in delivery.vertices.iter().enumerate() {
-        ensure(used.contains(&vertex.line), 40, (6, i, 1))?;
+        listener.ensure(used.contains(&vertex.line), 40, (6, i, 1))?;
     }
     Ok(())
 }
 
-fn check_tramo(
+fn check_tramo<L: Listener>(
     delivery: &Delivery,
     keys: &Keys,
     lines: &Lines,
     i: usize,
     tramo: &Tramo,
-) -> Result<(), Break> {
-    ensure(keys.linears.contains_key(&tramo.linear), 40, (5, i, 2))?;
-    ensure(tramo.perimeter.is_none(), 40, (5, i, 3))?;
-    ensure(lines.contains_key(&tramo.line), 40, (5, i, 4))?;
-    check_code(delivery, keys, &tramo.code, b'T', (5, i, 5))?;
-    ensure(keys.nodes.contains_key(&tramo.start), 40, (5, i, 6))?;
-    ensure(keys.nodes.contains_key(&tramo.end), 40, (5, i, 7))
+    listener: &mut L,
+) -> Result<(), L::Stop> {
+    listener.ensure(keys.linears.contains_key(&tramo.linear), 40, (5, i, 2))?;
+    listener.ensure(tramo.perimeter.is_none(), 40, (5, i, 3))?;
+    listener.ensure(lines.contains_key(&tramo.line), 40, (5, i, 4))?;
+    check_code(delivery, keys, &tramo.code, b'T', (5, i, 5), listener)?;
+    listener.ensure(keys.nodes.contains_key(&tramo.start), 40, (5, i, 6))?;
+    listener.ensure(keys.nodes.contains_key(&tramo.end), 40, (5, i, 7))
 }
 
 /// A code has to be catalogued, and under the type of the file that uses it.
-fn check_code(
+fn check_code<L: Listener>(
     delivery: &Delivery,
     keys: &Keys,
     code: &Code,
     tipo: u8,
     place: Place,
-) -> Result<(), Break> {
+    listener: &mut L,
+) -> Result<(), L::Stop> {
     let entry = match keys.codes.get(code) {
-        None => return Err(broken(40, place, 0)),
+        None => return listener.hear(broken(40, place, 0)),
         Some(&entry) => &delivery.entries[entry],
     };
     if entry.tipo == tipo {
         Ok(())
     } else {
-        Err(broken(41, place, u64::from(entry.tipo)))
+        listener.hear(broken(41, place, u64::from(entry.tipo)))
     }
 }

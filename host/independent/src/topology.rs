@@ -2,9 +2,9 @@
 
 use std::collections::{HashMap, HashSet};
 
+use crate::breaks::{broken, told, Listener};
 use crate::delivery::{Delivery, Node, Vertex};
 use crate::keys::Keys;
-use crate::verdict::{broken, ensure, told, Break};
 
 /// The vertex of highest order of each line that has a vertex, by its place
 /// in the file counted from 0.
@@ -21,46 +21,60 @@ pub(crate) fn lines(vertices: &[Vertex]) -> Lines {
     highest
 }
 
-/// Reads the files in their order, so that the first break met is the first
+/// Reads the files in their order, so that the first break told is the first
 /// there is. All rules are read of the same delivery, broken orders or not.
-pub(crate) fn check(delivery: &Delivery, keys: &Keys, lines: &Lines) -> Result<(), Break> {
-    check_points(delivery, keys)?;
-    check_linears(delivery)?;
-    check_tramos(delivery, keys, lines)?;
-    check_orders(delivery, keys)?;
-    check_nodes(delivery)
+pub(crate) fn check<L: Listener>(
+    delivery: &Delivery,
+    keys: &Keys,
+    lines: &Lines,
+    listener: &mut L,
+) -> Result<(), L::Stop> {
+    check_points(delivery, keys, listener)?;
+    check_linears(delivery, listener)?;
+    check_tramos(delivery, keys, lines, listener)?;
+    check_orders(delivery, keys, listener)?;
+    check_nodes(delivery, listener)
 }
 
-fn check_points(delivery: &Delivery, keys: &Keys) -> Result<(), Break> {
+fn check_points<L: Listener>(
+    delivery: &Delivery,
+    keys: &Keys,
+    listener: &mut L,
+) -> Result<(), L::Stop> {
     for (i, point) in delivery.points.iter().enumerate() {
         if let Some(node) = point.node.and_then(|id| node_of(delivery, keys, id)) {
             let together = (point.x, point.y) == (node.x, node.y);
-            ensure(together, 55, (2, i, 3))?;
+            listener.ensure(together, 55, (2, i, 3))?;
         }
     }
     Ok(())
 }
 
-fn check_linears(delivery: &Delivery) -> Result<(), Break> {
+fn check_linears<L: Listener>(delivery: &Delivery, listener: &mut L) -> Result<(), L::Stop> {
     let named: HashSet<u64> = delivery.tramos.iter().map(|t| t.linear).collect();
     for (i, linear) in delivery.linears.iter().enumerate() {
-        ensure(named.contains(&linear.id), 57, (4, i, 0))?;
+        listener.ensure(named.contains(&linear.id), 57, (4, i, 0))?;
     }
     Ok(())
 }
 
 /// The sense of a tramo isn't asked for: the start node is held against order
 /// 1 and the end node against the highest order, whatever it is.
-fn check_tramos(delivery: &Delivery, keys: &Keys, lines: &Lines) -> Result<(), Break> {
+fn check_tramos<L: Listener>(
+    delivery: &Delivery,
+    keys: &Keys,
+    lines: &Lines,
+    listener: &mut L,
+) -> Result<(), L::Stop> {
     let vertex = |place: &usize| &delivery.vertices[*place];
     for (i, tramo) in delivery.tramos.iter().enumerate() {
         let first = keys.vertices.get(&(tramo.line, 1)).map(vertex);
         let last = lines.get(&tramo.line).map(vertex);
-        ensure(last.is_some(), 59, (5, i, 4))?;
+        listener.ensure(last.is_some(), 59, (5, i, 4))?;
         let start = node_of(delivery, keys, tramo.start);
-        ensure(meets(first, start), 52, (5, i, 6))?;
+        listener.ensure(meets(first, start), 52, (5, i, 6))?;
         let end = node_of(delivery, keys, tramo.end);
-        ensure(meets(last, end), 53, (5, i, 7))?;
+        listener.ensure(meets(last, end), 53, (5, i, 7))?;
     }
     Ok(())
 }
@@ -74,19 +88,23 @@ fn meets(vertex: Option<&Vertex>, node: Option<&Node>) -> bool {
     }
 }
 
-fn check_orders(delivery: &Delivery, keys: &Keys) -> Result<(), Break> {
+fn check_orders<L: Listener>(
+    delivery: &Delivery,
+    keys: &Keys,
+    listener: &mut L,
+) -> Result<(), L::Stop> {
     let has = |line: u64, order: u64| keys.vertices.contains_key(&(line, order));
     for (i, vertex) in delivery.vertices.iter().enumerate() {
         match vertex.order {
-            0 => ensure(false, 50, (6, i, 2))?,
-            1 => ensure(has(vertex.line, 2), 51, (6, i, 2))?,
-            order => ensure(has(vertex.line, order - 1), 50, (6, i, 2))?,
+            0 => listener.ensure(false, 50, (6, i, 2))?,
+            1 => listener.ensure(has(vertex.line, 2), 51, (6, i, 2))?,
+            order => listener.ensure(has(vertex.line, order - 1), 50, (6, i, 2))?,
         }
     }
     Ok(())
 }
 
-fn check_nodes(delivery: &Delivery) -> Result<(), Break> {
+fn check_nodes<L: Listener>(delivery: &Delivery, listener: &mut L) -> Result<(), L::Stop> {
     let ends = delivery.tramos.iter().flat_map(|t| [t.start, t.end]);
     let named = delivery.points.iter().filter_map(|p| p.node);
     let wanted: HashSet<u64> = ends.chain(named).collect();
@@ -94,10 +112,10 @@ fn check_nodes(delivery: &Delivery) -> Result<(), Break> {
     let mut taken = HashMap::with_capacity(delivery.nodes.len());
     for (i, node) in delivery.nodes.iter().enumerate() {
         if let Some(earlier) = taken.insert((node.x, node.y, node.z), i) {
-            return Err(broken(54, (7, i, 0), told(earlier)));
+            listener.hear(broken(54, (7, i, 0), told(earlier)))?;
         }
         let has_use = wanted.contains(&node.id) || vertices.contains(&(node.x, node.y));
-        ensure(has_use, 56, (7, i, 0))?;
+        listener.ensure(has_use, 56, (7, i, 0))?;
     }
     Ok(())
 }
@@ -109,6 +127,7 @@ fn node_of<'a>(delivery: &'a Delivery, keys: &Keys, id: u64) -> Option<&'a Node>
 #[cfg(test)]
 mod tests {
     use super::*;
+    use crate::breaks::{Break, First};
     use crate::delivery::Tramo;
 
     /// Reason 59 never comes first in a verdict, since reason 40 goes before
@@ -133,11 +152,11 @@ mod tests {
             vertices: Vec::new(),
             nodes: Vec::new(),
         };
-        let keys = match Keys::gather(&delivery) {
+        let keys = match Keys::gather(&delivery, &mut First) {
             Ok(keys) => keys,
             Err(b) => panic!("{:?}", b),
         };
-        let found = check(&delivery, &keys, &lines(&delivery.vertices));
+        let found = check(&delivery, &keys, &lines(&delivery.vertices), &mut First);
         let expected = Break {
             reason: 59,
             file: 5,

@@ -2,13 +2,13 @@
 //!
 //! The list is made the slow way, straight from the table of reasons: every
 //! rule asked of every place, by loops over all records. Its least place must
-//! be what the library tells.
+//! be what the library tells, and its length what the grid counts.
 
 use crate::build::{lent, record_length, rich, start, Files, Noise, WIDTHS};
 use independent::{judge, read, Break, Refusal, Verdict};
 
 /// Tens, file, record, field, reason: the order that says which is first.
-type Place = (u8, usize, usize, usize, u8);
+pub type Place = (u8, usize, usize, usize, u8);
 
 /// The bytes of a field.
 fn bytes(files: &Files, file: usize, record: usize, field: usize) -> &[u8] {
@@ -299,26 +299,32 @@ fn other(files: &Files, (_, file, record, field, reason): Place) -> u64 {
     }
 }
 
-fn listed(files: &Files) -> Option<Break> {
+/// All breaks of the lowest ten that has any.
+pub fn lowest_ten(files: &Files) -> Vec<Place> {
+    let mut list = Vec::new();
     for group in [tens, twenties, thirties, forties, fifties] {
-        let mut list = Vec::new();
         group(files, &mut list);
-        if let Some(&place) = list.iter().min() {
-            let (_, file, record, field, reason) = place;
-            return Some(Break {
-                reason,
-                file,
-                record,
-                field,
-                other: other(files, place),
-            });
+        if !list.is_empty() {
+            break;
         }
     }
-    None
+    list
+}
+
+fn listed(files: &Files) -> Option<Break> {
+    let place = lowest_ten(files).into_iter().min()?;
+    let (_, file, record, field, reason) = place;
+    Some(Break {
+        reason,
+        file,
+        record,
+        field,
+        other: other(files, place),
+    })
 }
 
 /// One random change to a delivery.
-fn disturb(files: &mut Files, noise: &mut Noise) {
+pub fn disturb(files: &mut Files, noise: &mut Noise) {
     // The files that the fifties are read of come up more often.
     let file = [1, 2, 3, 4, 4, 5, 5, 6, 6, 6, 7, 7][noise.below(12)];
     let length = record_length(file);

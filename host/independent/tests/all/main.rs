@@ -4,6 +4,7 @@
 
 mod build;
 mod cases;
+mod grid;
 mod listing;
 mod noise;
 mod reading_writing;

@@ -2,9 +2,19 @@
 
 use crate::build::{lent, rich, small, Files, Noise};
 use independent::{
-    counts, field_name, fields, form, judge, line, program_line, read, width, write, Value,
-    Verdict, LENGTHS,
+    counts, field_name, fields, form, grid, judge, line, program_line, read, width, write, Break,
+    Grid, Value, Verdict, LENGTHS,
 };
+
+/// The first break is counted, with none of another ten or of a file before.
+fn assert_holds(grid: &Grid, first: Break) {
+    let ten = usize::from(first.reason / 10) - 1;
+    for (i, row) in grid.iter().enumerate() {
+        assert!(row[ten] > 0 || i + 1 != first.file);
+        assert!(row[ten] == 0 || i + 1 >= first.file);
+        assert_eq!(row.iter().sum::<u64>(), row[ten]);
+    }
+}
 
 /// Asks every call about these files.
 fn ask_all(files: &Files) {
@@ -14,8 +24,13 @@ fn ask_all(files: &Files) {
     let program = program_line(lent(files));
     assert!(program == line || program.starts_with("BIG "));
     let counts = counts(lent(files));
-    if let Verdict::Accepted(accepted) = verdict {
-        assert_eq!(accepted, counts);
+    let grid = grid(lent(files));
+    match verdict {
+        Verdict::Accepted(accepted) => {
+            assert_eq!(accepted, counts);
+            assert_eq!(grid, [[0; 5]; 7]);
+        }
+        Verdict::Broken(first) => assert_holds(&grid, first),
     }
     for (i, file) in files.iter().enumerate() {
         for record in [0, 1, counts[i], counts[i] + 1, usize::MAX] {
