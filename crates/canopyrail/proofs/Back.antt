@@ -13,7 +13,7 @@ use lib.IntN.{ℤ, pos}
 use lib.ListN.{length, getD, take, drop, length-append, List·getD-append}
 use lib.Seq.{take-at, drop-at, take-all}
 use borrow.Author.Tests.{lt-ltb, le-leb}
-use Rattle.laws.specs.Row.{pick, row}
+use Rattle.laws.specs.Row.{pick, row, strung}
 use Rattle.laws.proofs.RowLaws.{length-row, row-at, picked}
 use Rattle.field.specs.declared.class.Class.the-variants.{Blank}
 use Rattle.field.specs.Bytes.{allOf}
@@ -38,7 +38,7 @@ use Rattle.codec.specs.Calls.{readOf, Writes}
 use Rattle.codec.proofs.CallLaws as calls
 use Rattle.codec.proofs.Theorems as one
 use Rattle.canopyrail.specs.Answers.{answerWord}
-use Rattle.canopyrail.specs.Lent.{textRoom, lentLength, strung, Holds, roomy, readAnswer, Reads, heldValue, isLent, lentValue, lentValues, WritesLent}
+use Rattle.canopyrail.specs.Lent.{textRoom, lentLength, Holds, roomy, readAnswer, Reads, heldValue, isLent, lentValue, lentValues, WritesLent}
 use Rattle.canopyrail.proofs.CallLaws.{refusal-told}
 
 -- VALUES PUT INTO LENT MEMORY AND TAKEN AGAIN

@@ -52,7 +52,7 @@ none-lent f (x ∷ l) e = absurd (omega arith)
 
 -- WHAT A REASON CARRIES: nothing, where it is none of 30, 41 and 54
 abbrev plain : List ℕ
-plain = 0 ∷ 1 ∷ 2 ∷ 3 ∷ 4 ∷ 5 ∷ 6 ∷ 7 ∷ 9 ∷ 11 ∷ 12 ∷ 13 ∷ 14 ∷ 16 ∷ 17 ∷ 18 ∷ 19 ∷ 20 ∷ 21 ∷ 22 ∷ 23 ∷ 24 ∷ 25 ∷ 26 ∷ []
+plain = 0 ∷ 1 ∷ 2 ∷ 3 ∷ 4 ∷ 5 ∷ 6 ∷ 7 ∷ 9 ∷ 11 ∷ 12 ∷ 13 ∷ 14 ∷ 16 ∷ 17 ∷ 18 ∷ 19 ∷ 20 ∷ 21 ∷ 22 ∷ 23 ∷ 24 ∷ 25 ∷ 26 ∷ 27 ∷ []
 
 pub other-none : (reason : Reason) → OneOf plain (tagOf the-type reason) → 0 ≡ otherOf reason
 other-none R.LongFile10 h = refl
@@ -82,6 +82,7 @@ other-none R.BadText63 h = refl
 other-none R.Missing64 h = refl
 other-none R.Outside65 h = refl
 other-none R.NoSuchRecord66 h = refl
+other-none R.TooMany67 h = refl
 
 -- A REASON'S NUMBER is not 0, so neither is the answer that tells it
 numbered : (reason : Reason) → ltb 0 (numberOf reason) ≡ true
@@ -112,6 +113,7 @@ numbered R.BadText63 = refl
 numbered R.Missing64 = refl
 numbered R.Outside65 = refl
 numbered R.NoSuchRecord66 = refl
+numbered R.TooMany67 = refl
 
 pub refusal-told : (reason : Reason) (field : ℕ) → refusalWord reason field ≡ 0 → ⊥
 unfolding refusalWord answerNumber

@@ -4,12 +4,12 @@ use Prim.Native.Nat.{ℕ, zero, suc, _+_, _*_, _-_, _/_, _%_, _≤_, _<_}
 use mathlib.Core.Bool.{Bool, true, false, _&&_}
 use mathlib.Core.List.{List, [], _∷_}
 use mathlib.Core.Path.{_≡_, refl, sym, ap, subst}
-use native.Mathlib.Nat.{mul-comm, div-le-of-le-mul, min-le-left, eq-or-lt-of-le}
+use native.Mathlib.Nat.{min-le-left, eq-or-lt-of-le}
 use mathlib.Core.Logic.{_⊎_, inl, inr, ⊎-elim}
 use native.Mathlib.Omega.{arith}
 use lib.Dec.{eqb, leb}
 use lib.ListN.{length, getD}
-use borrow.Author.Tests.{leb-true, eqb-true, ltb-false, lt-ltb, le-ltb, eq-eqb}
+use borrow.Author.Tests.{leb-true, eqb-true, lt-ltb, le-ltb, eq-eqb}
 use Rattle.laws.specs.Nest.{before}
 use Rattle.laws.specs.Row.{pick}
 use Rattle.laws.proofs.RowLaws.{and-true}
@@ -17,7 +17,7 @@ use Rattle.laws.proofs.FindLaws.{true-false}
 use Rattle.record.specs.declared.kind.Kind.{Kind}
 use Rattle.record.specs.declared.reason.Break.{Break}
 use Rattle.record.specs.declared.reason.Finding.the-variants.{Broken}
-use Rattle.record.specs.Table.{fieldsOf, fileOf, lengthOf, limit, mostFields, fileCount}
+use Rattle.record.specs.Table.{fieldsOf, fileOf, limit, mostFields, fileCount}
 use Rattle.record.specs.Files.{Files, deliveryOf}
 use Rattle.record.specs.Cut.{countOf}
 use Rattle.record.specs.Rules.{breaks10}
@@ -31,13 +31,7 @@ use Rattle.judge.specs.Broken.{placeAt}
 use Rattle.judge.specs.machinery.Searched.{brokenIn}
 use Rattle.judge.proofs.Plain.{LeastBroken, FoundFirst}
 use Rattle.judge.proofs.Exact.{found-judged}
-
--- a file that is not too long has at most 16,384 records
-count-small : (s : List ℕ) (k : Kind) → breaks10 s k ≡ false → countOf s k ≤ limit
-unfolding breaks10 countOf
-count-small s k e =
-    let l = ltb-false (limit * lengthOf k) (length s) e in
-    div-le-of-le-mul (lengthOf k) (rw (mul-comm (lengthOf k) limit) l)
+use Rattle.grids.proofs.TenLaws.{count-small}
 
 -- WHERE SOMETHING IS BROKEN: the tens of the reason bound the record and the field
 module _ (s : List ℕ) (k : Kind) (n i f : ℕ) where

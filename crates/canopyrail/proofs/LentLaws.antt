@@ -12,8 +12,8 @@ use lib.IntN.{ℤ, pos}
 use lib.ListN.{length, getD, take, drop, set, length-set, take-append-drop, length-append}
 use lib.Seq.{drop-set-lt, drop-drop, take-length, take-at, length-take-le}
 use borrow.Rule.Slice.PartMut.{putMid, midOf, same-len-mid, mid-len, drop-put}
-use Rattle.laws.specs.Row.{row}
-use Rattle.laws.proofs.RowLaws.{row-start, row-more, and-true}
+use Rattle.laws.specs.Row.{strung}
+use Rattle.laws.proofs.RowLaws.{and-true}
 use Rattle.field.specs.Texts.{padded, firstBytes}
 use Rattle.field.proofs.TextLaws.{first-bytes-le}
 use Rattle.record.specs.declared.reason.Reason.{Reason}
@@ -27,30 +27,10 @@ use Rattle.codec.specs.Values.{valueAt}
 use Rattle.codec.specs.declared.values.Answer.the-variants.{Done, Refused}
 use Rattle.codec.specs.declared.values.Reading.{Reading}
 use Rattle.codec.specs.Calls.{Writes, readOf}
+use Rattle.grids.proofs.FillLaws.{Putting, putting-start, putting-more, putting-end}
 use Rattle.canopyrail.specs.Answers.{refusalWord, answerWord}
-use Rattle.canopyrail.specs.Lent.{textRoom, strung, lentLength, Holds, isLent, heldValue, WritesLent, roomy, readAnswer, Reads}
+use Rattle.canopyrail.specs.Lent.{textRoom, lentLength, Holds, isLent, heldValue, WritesLent, roomy, readAnswer, Reads}
 use Rattle.canopyrail.proofs.CallLaws.{refusal-told}
-
--- LENT MEMORY FILLED: the first i places are put, and the rest is as it was
-pub record Putting {A : Type 0} (g : ℕ → A) (before out : List A) (i : ℕ) : Type 0 where
-  pub long : length out ≡ length before
-  pub put : take i out ≡ row g i
-  pub rest : drop i out ≡ drop i before
-
-module _ {A : Type 0} (g : ℕ → A) (before : List A) where
-  pub putting-start : Putting g before before 0
-  putting-start = record { long = refl; put = row-start g before; rest = refl }
-
-  pub putting-more : {out : List A} {i : ℕ} {x : A} → i < length before → Putting g before out i → x ≡ g i → Putting g before (set out i x) (i + 1)
-  putting-more {out} {i} {x} l p e =
-      record {
-        long = length-set out i x ∙ p .long;
-        put = row-more g i out x (omega (arith, p .long)) (p .put) e;
-        rest = drop-set-lt (i + 1) out i x (omega arith) ∙ sym (drop-drop 1 i out) ∙ ap (drop 1) (p .rest) ∙ drop-drop 1 i before;
-      }
-
-  pub putting-end : {out : List A} {i n : ℕ} → i ≡ n → Putting g before out i → out ≡ row g n ++ drop n before
-  putting-end {out} {i} {n} e p = sym (take-append-drop i out) ∙ ap₂ (λ (a b : List A). a ++ b) (p .put) (p .rest) ∙ ap (λ (m : ℕ). row g m ++ drop m before) e
 
 -- TEXTS as long as the widest field, one after the other
 pub record Stringing (g : ℕ → List ℕ) (before out : List ℕ) (i : ℕ) : Type 0 where

@@ -1,4 +1,5 @@
 pub mod CallLaws
+pub mod CellLaws
 pub mod LentLaws
 pub mod Fits
 pub mod Others

@@ -247,7 +247,7 @@ free-words = words.free-words
 -- 6. THE PROGRAM'S LINE: the program reads no more than one byte past the 8,192 that it takes of a file, and its line is that of the
 -- whole files.
 pub program-reads-enough : (files cut : Files) → ((k : Kind) → cut k ≡ take (big + 1) (files k)) → programLine cut ≡ programLine files
-program-reads-enough = short.cut-short
+program-reads-enough files cut h = short.cut-short files cut h _
 
 -- 7. THE 14 CASES of document 01: one table, computed.
 pub fourteen-cases : map (λ c. outcome (c .0)) table ≡ map (λ c. c .1) table
@@ -322,5 +322,5 @@ field-once answer r r' e e' = e ∙ sym e'
 pub other-once : (answer r r' : ℕ) → r ≡ otherIn answer → r' ≡ otherIn answer → r ≡ r'
 other-once answer r r' e e' = e ∙ sym e'
 
-pub version-once : (r r' : ℕ) → r ≡ 200 → r' ≡ 200 → r ≡ r'
+pub version-once : (r r' : ℕ) → r ≡ 201 → r' ≡ 201 → r ≡ r'
 version-once r r' e e' = e ∙ sym e'

@@ -2,14 +2,14 @@
 -- coordinate, a length and a text of the widest field's bytes. A field whose length is 0 is missing; of a number or a coordinate any
 -- other length says that it is given.
 -- Assumes nothing.
-use Prim.Native.Nat.{ℕ, zero, suc, _+_, _*_}
+use Prim.Native.Nat.{ℕ, _+_, _*_}
 use mathlib.Core.Bool.{Bool, true, false, not, _&&_}
 use mathlib.Core.List.{List, [], _++_}
 use mathlib.Core.Path.{_≡_}
 use lib.Dec.{eqb, ltb, leb}
 use lib.IntN.{ℤ, pos}
 use lib.ListN.{length, getD, take, drop}
-use Rattle.laws.specs.Row.{pick, row}
+use Rattle.laws.specs.Row.{pick, row, strung}
 use Rattle.field.specs.Texts.{padded, firstBytes}
 use Rattle.record.specs.declared.kind.Kind.{Kind}
 use Rattle.record.specs.declared.kind.Form.{Form}
@@ -47,11 +47,6 @@ textRoom = mostFields * widest
 -- a text's bytes; 1 of a number or a coordinate that is given
 unfoldable pub lentLength : Value → ℕ
 lentLength v = pick (v .given && eqb (v .len) 0) 1 (v .len)
-
--- n texts, one after the other
-unfoldable pub strung : (ℕ → List ℕ) → ℕ → List ℕ
-strung g zero = []
-strung g (suc n) = strung g n ++ g n
 
 abbrev pub lentNumbers : Values → List ℕ
 lentNumbers v = row (λ i. valueAt v (i + 1) .number) mostFields

@@ -26,6 +26,19 @@ fn file_at<'a, 'b>(files: &'b [&'a [u8]], spare: &'a [u8], n: usize) -> &'a [u8]
     }
 }
 
+// All files of a delivery: those past the end of the slice are empty.
+pub(crate) fn all_files<'a, 'b>(files: &'b [&'a [u8]], spare: &'a [u8]) -> [&'a [u8]; FILES]
+    ensures { λ r. ⌜ filesOf (map now r) ≡ filesOf (map now (now (files .entry))) ⌝ }
+{
+    let mut all = [spare; FILES];
+    let mut n = 0;
+    while n < FILES {
+        all[n] = file_at(files, spare, n);
+        n += 1;
+    }
+    all
+}
+
 // Judges the files of a delivery, in any state, in the order of their numbers. An absent one is empty, and so are those past the end
 // of the slice; what the slice has past the last kind is not looked at.
 #[no_mangle]
@@ -36,13 +49,7 @@ pub extern "C" fn canopyrail_judge<'a, 'b>(files: &'b [&'a [u8]]) -> u64
         return 0;
     }
     let spare = files[0];
-    let mut all = [spare; FILES];
-    let mut n = 0;
-    while n < FILES {
-        all[n] = file_at(files, spare, n);
-        n += 1;
-    }
-    let v = judge(all);
+    let v = judge(all_files(files, spare));
     let finding = v.finding;
     finding_word(finding)
 }

@@ -25,8 +25,8 @@ use Rattle.keys.specs.machinery.Findings.{keysIn, keysFinding}
 use Rattle.keys.specs.machinery.Groups.{cellBreak, groupFinding, overFiles}
 use Rattle.topology.specs.Rules.{placed, nodeIn, highestIn, meets, gap, breaks50, unpaired, breaks51, startElsewhere, breaks52, endElsewhere, breaks53, samePlace, placedBefore, breaks54, pointElsewhere, breaks55, nodeUsed, breaks56, objectIdle, breaks57, breaks59, fifties, fiftyReasons}
 use Rattle.topology.specs.machinery.Findings.{topologyIn, topologyFinding}
-use Rattle.judge.specs.Broken.{saidTests, testsOf, reasonOf, breaksIn, breaks}
-use Rattle.judge.specs.Verdict.{judged, countsOf, verdictOf}
+use Rattle.judge.specs.Broken.{saidTests, testsOf, reasonOf, breaksIn, breaksOf, breaks, countsOf}
+use Rattle.judge.specs.Verdict.{judged, verdictOf}
 use Rattle.judge.specs.Cases.{ascii, Case, Outcome, outcome, table}
 
 -- THE THEOREM
@@ -40,12 +40,12 @@ unfolding
     nameAt keyOf targetOf repeats breaks30 dangles breaks40 typedIn mistyped breaks41 keyTests keyReasons cellBreak groupFinding overFiles keysIn keysFinding
     placed nodeIn highestIn meets gap breaks50 unpaired breaks51 startElsewhere breaks52 endElsewhere breaks53 samePlace placedBefore breaks54
     pointElsewhere breaks55 nodeUsed breaks56 objectIdle breaks57 breaks59 fifties fiftyReasons topologyIn topologyFinding
-    saidTests testsOf reasonOf breaksIn breaks judged countsOf verdictOf
+    saidTests testsOf reasonOf breaksIn breaksOf breaks judged countsOf verdictOf
 cases = refl
 
 -- NO FILES: nothing is broken
 pub no-files : judged (filesOf []) ≡ Fine
 unfolding
     firstOf run whichOf filesOf countOf breaks10 breaks11
-    saidTests testsOf reasonOf breaksIn breaks judged
+    saidTests testsOf reasonOf breaksIn breaksOf breaks judged
 no-files = refl

@@ -1,4 +1,4 @@
--- The verdict program need not read a file further than one byte past what it takes: its line (specs/Line.antt) stays.
+-- A program need not read a file further than one byte past what it takes: what it prints (specs/Line.antt) stays.
 -- Assumes nothing.
 use Prim.Native.Nat.{ℕ, zero, suc, _+_}
 use mathlib.Core.Bool.{Bool, true, false}
@@ -20,8 +20,8 @@ use Rattle.record.specs.Table.{whichOf, fileCount}
 use Rattle.record.specs.Files.{Files}
 use Rattle.record.proofs.TableLaws.{sane, which-file}
 use Rattle.keys.specs.Rules.{orFirst}
-use Rattle.judge.specs.Line.{big, isBig, bigOf, programLine}
-use Rattle.judge.proofs.LineLaws.{bigAt, some-big-line}
+use Rattle.judge.specs.Line.{big, isBig, bigOf, orBig}
+use Rattle.judge.proofs.LineLaws.{bigAt, some-big}
 
 -- the first n + 1 bytes pass n exactly if all do
 passes-same : (n : ℕ) (s : List ℕ) → ltb n (length (take (suc n) s)) ≡ ltb n (length s)
@@ -49,16 +49,16 @@ module _ (files cut : Files) (h : (k : Kind) → cut k ≡ take (big + 1) (files
       h k ∙ take-all (big + 1) (files k) (omega (arith, ltb-false big (length (files k)) small)))
 
   -- where one is, the line is its number
-  some-big : (n : ℕ) → firstIndex (bigAt files) (fileCount + 1) ≡ some n → (bigOf files ≡ n) × (n ≡ 0 → ⊥)
+  first-is : (n : ℕ) → firstIndex (bigAt files) (fileCount + 1) ≡ some n → (bigOf files ≡ n) × (n ≡ 0 → ⊥)
   unfolding bigOf bigAt whichOf
-  some-big zero e = absurd (true-false (sym (index-some-at (bigAt files) (fileCount + 1) e .1)))
-  some-big (suc n) e = (ap orFirst e, λ z. omega arith)
+  first-is zero e = absurd (true-false (sym (index-some-at (bigAt files) (fileCount + 1) e .1)))
+  first-is (suc n) e = (ap orFirst e, λ z. omega arith)
 
-  pub cut-short : programLine cut ≡ programLine files
-  cut-short = go (firstIndex (bigAt files) 8) refl
+  pub cut-short : (text : Files → List ℕ) → orBig text cut ≡ orBig text files
+  cut-short text = go (firstIndex (bigAt files) (fileCount + 1)) refl
     where
-      go : (o : Option ℕ) → firstIndex (bigAt files) (fileCount + 1) ≡ o → programLine cut ≡ programLine files
-      go none e = ap programLine (none-cut e)
+      go : (o : Option ℕ) → firstIndex (bigAt files) (fileCount + 1) ≡ o → orBig text cut ≡ orBig text files
+      go none e = ap (orBig text) (none-cut e)
       go (some n) e =
-          let b = some-big n e in
-          sym (some-big-line cut (sym (first-big-same ∙ b .0)) (b .1) refl) ∙ some-big-line files (sym (b .0)) (b .1) refl
+          let b = first-is n e in
+          sym (some-big text cut (sym (first-big-same ∙ b .0)) (b .1) refl) ∙ some-big text files (sym (b .0)) (b .1) refl

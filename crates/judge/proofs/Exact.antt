@@ -36,8 +36,8 @@ use Rattle.keys.specs.Rules.{keyTests}
 use Rattle.keys.specs.machinery.Findings.{keysBroken}
 use Rattle.topology.specs.machinery.Findings.{topologyBroken}
 use Rattle.judge.specs.declared.judge.Verdict.{Verdict}
-use Rattle.judge.specs.Broken.{groups, isThere, saidTests, testsOf, reasonOf, holds, breaksIn, atWhich, breaks, placeAt, First, Finds, Judges}
-use Rattle.judge.specs.Verdict.{judged, countsOf, verdictOf}
+use Rattle.judge.specs.Broken.{groups, isThere, saidTests, testsOf, reasonOf, holds, breaksIn, atWhich, breaksOf, breaks, placeAt, First, Finds, Judges, countsOf}
+use Rattle.judge.specs.Verdict.{judged, verdictOf}
 use Rattle.judge.specs.machinery.Searched.{searched, brokenIn}
 use Rattle.judge.proofs.SaidLaws.{under-pick, and-none}
 use Rattle.judge.proofs.Plain.{LeastBroken, FoundFirst, found-first}
@@ -162,7 +162,7 @@ module _ (files : Files) where
       }
 
   pub stands : (p : List ℕ) (b : Break) → at (breaks files) p ≡ some b → Stands files p b
-  unfolding breaks
+  unfolding breaks breaksOf
   stands p b e =
       let x = at-node _ _ p e in
       let y = at-node _ _ (x .1) (x .4) in
@@ -175,7 +175,7 @@ module _ (files : Files) where
   -- and every such break stands at its place
   pub stood : (n : ℕ) (k : Kind) (i f : ℕ) → holds files n k i f ≡ true
       → at (breaks files) (n / 10 ∷ fileOf k ∷ i ∷ f ∷ n % 10 ∷ []) ≡ some (breakOf (reasonOf files n k i f) k i f)
-  unfolding breaks breaksIn holds
+  unfolding breaks breaksOf breaksIn holds
   stood n k i f e =
       let w = within files k i f (n % 10) (n / 10) e in
       let all : n / 10 * 10 + n % 10 ≡ n = omega arith in

@@ -37,8 +37,8 @@ use Rattle.record.proofs.FindingLaws.{inFile, fields-is, shape-is}
 use Rattle.keys.specs.machinery.Groups.{breakIn, overFiles}
 use Rattle.keys.proofs.Agree.{Agrees, isRead, keys-agree}
 use Rattle.topology.proofs.Agree.{topology-agree}
-use Rattle.judge.specs.Broken.{groups}
-use Rattle.judge.specs.Verdict.{judged, countsOf, verdictOf}
+use Rattle.judge.specs.Broken.{groups, countsOf}
+use Rattle.judge.specs.Verdict.{judged, verdictOf}
 use Rattle.judge.specs.machinery.Searched.{groupAt, searched}
 use Rattle.judge.proofs.Exact.{searched-is}
 use Rattle.judge.specs.Words.{inFree, SameButWords}

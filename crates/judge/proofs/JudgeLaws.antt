@@ -14,8 +14,7 @@ use Rattle.record.specs.Table.{whichOf, fileCount, onFile}
 use Rattle.record.specs.Files.{Files}
 use Rattle.record.specs.Breaks.{shapeFinding, fieldsFinding}
 use Rattle.record.proofs.TableLaws.{NoneOf, numbers, default-at}
-use Rattle.judge.specs.Broken.{groups}
-use Rattle.judge.specs.Verdict.{countsOf}
+use Rattle.judge.specs.Broken.{groups, countsOf}
 use Rattle.judge.specs.machinery.Searched.{groupAt}
 
 -- a file's finding, of its shape or of its fields

@@ -22,8 +22,7 @@ use Rattle.record.specs.Files.{Files}
 use Rattle.record.specs.Breaks.{numberOf}
 use Rattle.keys.specs.Rules.{orFirst}
 use Rattle.judge.specs.declared.judge.Verdict.{Verdict}
-use Rattle.judge.specs.Verdict.{verdictOf}
-use Rattle.judge.specs.Line.{countWords, breakLine, lineOf, isBig, bigOf, bigLine, programLine, lineRoom, lineIn}
+use Rattle.judge.specs.Line.{countWords, breakLine, lineOf, isBig, bigOf, bigLine, orBig, lineRoom, lineIn}
 
 -- A WORD: a blank at a place, and a number's digits put behind it
 module _ (at w : ℕ) (buf : List ℕ) (h : at + w < length buf) where
@@ -185,12 +184,12 @@ module _ {files : Files} {n : ℕ} (s : NoneBig files n) where
     pub big-more : r ≡ false → NoneBig files (n + 1)
     big-more y = record { within = omega arith; past = index-more _ (s .past) (sym big-turn ∙ y) }
 
--- THE PROGRAM'S LINE, by the number of the first big file
-module _ (files : Files) {big : ℕ} {s : List ℕ} (e : big ≡ bigOf files) where
-  pub no-big-line : {v : Verdict} → big ≡ 0 → v ≡ verdictOf files → s ≡ lineOf v → s ≡ programLine files
-  unfolding programLine
-  no-big-line z q h = rw (← e, eq-eqb big 0 z, ← q) h
+-- WHAT A PROGRAM PRINTS, by the number of the first big file
+module _ (text : Files → List ℕ) (files : Files) {big : ℕ} {s : List ℕ} (e : big ≡ bigOf files) where
+  pub none-big : big ≡ 0 → s ≡ text files → s ≡ orBig text files
+  unfolding orBig
+  none-big z h = rw (← e, eq-eqb big 0 z) h
 
-  pub some-big-line : (big ≡ 0 → ⊥) → s ≡ bigLine big → s ≡ programLine files
-  unfolding programLine
-  some-big-line z h = rw (← e, ne-eqb big 0 z) h
+  pub some-big : (big ≡ 0 → ⊥) → s ≡ bigLine big → s ≡ orBig text files
+  unfolding orBig
+  some-big z h = rw (← e, ne-eqb big 0 z) h

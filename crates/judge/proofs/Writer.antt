@@ -21,8 +21,8 @@ use Rattle.keys.specs.Rules.{keyTests, keyReasons}
 use Rattle.keys.specs.machinery.Findings.{keysBroken, keysIn, keysFinding}
 use Rattle.topology.specs.Rules.{fiftyReasons}
 use Rattle.topology.specs.machinery.Findings.{topologyTests, topologyBroken, topologyIn, topologyFinding}
-use Rattle.judge.specs.Broken.{groups}
-use Rattle.judge.specs.Verdict.{judged, countsOf, verdictOf}
+use Rattle.judge.specs.Broken.{groups, countsOf}
+use Rattle.judge.specs.Verdict.{judged, verdictOf}
 use Rattle.judge.specs.machinery.Searched.{groupAt, searched}
 use Rattle.judge.specs.Obeys.{Records, valuesAt, tablesOf, Obeys, madeOf, Shuffled, lengthsOf, accepted}
 use Rattle.judge.proofs.NoneBroken.{over-fine, none-broken-fine}

@@ -94,13 +94,17 @@ breaksIn files t k =
     (λ f. node 10
     (λ u. leaf (hit (getD (testsOf files t k i f) u false) (breakOf (reasonOf files (t * 10 + u) k i f) k i f)))))
 
--- and in the delivery, by ten and file first
+-- and of the ten in all files,
 abbrev pub atWhich : (Kind → Nest Break) → Which → Nest Break
 atWhich g NoFile = leaf none
 atWhich g (File k) = g k
 
+unfoldable pub breaksOf : Files → ℕ → Nest Break
+breaksOf files t = node (fileCount + 1) (λ n. atWhich (breaksIn files t) (whichOf n))
+
+-- and of all tens
 unfoldable pub breaks : Files → Nest Break
-breaks files = node (groups + 1) (λ t. node (fileCount + 1) (λ n. atWhich (breaksIn files t) (whichOf n)))
+breaks files = node (groups + 1) (λ t. breaksOf files t)
 
 -- THE ORDER of breaks: tens of the reason, file, record, field, reason
 abbrev pub placeAt : ℕ → Kind → ℕ → ℕ → List ℕ
@@ -122,7 +126,11 @@ unfoldable pub Finds : Files → Finding → Type 0
 Finds files Fine = (n : ℕ) (k : Kind) (i f : ℕ) → IsBroken files n k i f → ⊥
 Finds files (Broken b) = First files b
 
--- what a verdict is to mean: its finding, and beside it how many whole records each file has
+-- how many whole records each file's bytes have
+unfoldable pub countsOf : Files → List ℕ
+countsOf files = map (λ k. countOf (files k) k) kinds
+
+-- what a verdict is to mean: its finding, and beside it those counts
 pub record Judges (files : Files) (v : Verdict) : Type 0 where
   pub finds : Finds files (v .finding)
-  pub counted : v .counts ≡ map (λ k. countOf (files k) k) kinds
+  pub counted : v .counts ≡ countsOf files

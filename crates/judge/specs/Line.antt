@@ -56,9 +56,13 @@ bigOf files = orFirst (firstIndex (λ n. isBig files (whichOf n)) (fileCount + 1
 abbrev pub bigLine : ℕ → List ℕ
 bigLine file = 66 ∷ 73 ∷ 71 ∷ 32 ∷ (digits 1 file ++ 10 ∷ [])
 
--- THE LINE that the program prints: BIG goes before everything
-unfoldable pub programLine : Files → List ℕ
-programLine files = pick (eqb (bigOf files) 0) (lineOf (verdictOf files)) (bigLine (bigOf files))
+-- what a program prints that has a text for files of which none is big: BIG goes before everything
+unfoldable pub orBig : (Files → List ℕ) → Files → List ℕ
+orBig text files = pick (eqb (bigOf files) 0) (text files) (bigLine (bigOf files))
+
+-- THE LINE that the program prints
+abbrev pub programLine : Files → List ℕ
+programLine files = orBig (λ all. lineOf (verdictOf all)) files
 
 -- a line in the hand of the program: its length, and its bytes at the start of an array, in which those past it are 0
 abbrev pub lineRoom : ℕ

@@ -19,7 +19,8 @@ ghost use Rattle.record.specs.Table.{onFile};
 ghost use Rattle.record.specs.Cut.{countOf};
 ghost use Rattle.record.specs.Breaks.{shapeFinding, fieldsFinding};
 ghost use Rattle.keys.specs.machinery.Groups.{atFile, overFiles};
-ghost use Rattle.judge.specs.Verdict.{countsOf, verdictOf};
+ghost use Rattle.judge.specs.Broken.{countsOf};
+ghost use Rattle.judge.specs.Verdict.{verdictOf};
 ghost use Rattle.judge.specs.machinery.Searched.{groupAt, searched};
 
 // The groups of reasons, by their tens: 10 to 50.

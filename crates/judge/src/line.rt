@@ -91,7 +91,7 @@ fn is_big<'a>(which: Which, files: [&'a [u8]; FILES]) -> bool
 }
 
 // The number of the first file that has more, and 0 where none does.
-fn first_big<'a>(files: [&'a [u8]; FILES]) -> usize
+pub fn first_big<'a>(files: [&'a [u8]; FILES]) -> usize
     ensures { λ r. ⌜ r ≡ bigOf (filesOf (map now (files .entry))) ⌝ }
 {
     let mut n = 0;
@@ -104,7 +104,7 @@ fn first_big<'a>(files: [&'a [u8]; FILES]) -> usize
     0
 }
 
-fn big_line(file: usize) -> Line
+pub fn big_line(file: usize) -> Line
     ensures { λ r. ⌜ r ≡ lineIn (bigLine file) ⌝ }
 {
     let mut bytes = [0u8; 45];

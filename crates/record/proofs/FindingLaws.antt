@@ -26,7 +26,7 @@ use Rattle.record.specs.Cut.{countOf, recordOf}
 use Rattle.record.specs.Rules.{breaks10, breaks11, twenties}
 use Rattle.record.specs.Breaks.{breakOf, findingOf, fine, indexOf, atPlace, shapeBreaks, twentyReasons, recordBreaks, fieldBreaksAt, fieldBreaks, shapeFinding, recordFinding, fieldsFinding}
 
-fine-none : (o : Option Break) → fine (findingOf o) ≡ true → o ≡ none
+pub fine-none : (o : Option Break) → fine (findingOf o) ≡ true → o ≡ none
 fine-none none e = refl
 fine-none (some b) e = absurd (true-false (sym e))
 

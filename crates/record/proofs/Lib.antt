@@ -8,6 +8,7 @@ pub mod RuleLaws
 pub mod NameLaws
 pub mod ColumnLaws
 pub mod FindingLaws
+pub mod CountingLaws
 pub mod GlanceLaws
 pub mod GlancePlaces
 pub mod GlanceSeen

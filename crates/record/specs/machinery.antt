@@ -1,3 +1,4 @@
 pub mod Packed
 pub mod Glance
 pub mod Columns
+pub mod Counts

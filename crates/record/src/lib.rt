@@ -2,6 +2,7 @@
 // records of a file say, for the layers above.
 pub mod check;
 pub mod columns;
+pub mod count;
 pub mod cut;
 pub mod files;
 pub mod fill;

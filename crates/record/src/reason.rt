@@ -2,7 +2,7 @@
 ghost use mathlib.Core.Path.{_≡_};
 ghost use Rattle.record.specs.Breaks.{numberOf, fine};
 
-// The reasons of document 01, each with its number in its name.
+// The reasons of documents 01 and 02, each with its number in its name.
 pub enum Reason {
     // The file is longer than 16,384 records' bytes.
     LongFile10,
@@ -46,7 +46,7 @@ pub enum Reason {
     NoLastVertex59,
     // The file number is outside 1 to 7.
     NoFile60,
-    // The lent room is shorter than the record.
+    // The lent room is shorter than the record, or than the grid.
     ShortRoom61,
     // The value is too large for its digits.
     TooLarge62,
@@ -58,6 +58,8 @@ pub enum Reason {
     Outside65,
     // The record number is 0 or above the whole records in hand.
     NoSuchRecord66,
+    // A cell of two grids' sum is over 9,999,999,999.
+    TooMany67,
 }
 
 // A reason and its place. Files, records and fields are counted from 1; field 0 is the record, and record 0 the file.
@@ -107,6 +109,7 @@ impl Reason {
             Reason::Missing64 => 64,
             Reason::Outside65 => 65,
             Reason::NoSuchRecord66 => 66,
+            Reason::TooMany67 => 67,
         }
     }
 }

@@ -1,8 +1,8 @@
 -- `judge::line::program_line` meets its contract.
 -- Assumes nothing.
 use mathlib.Core.Path.{refl, ap, _∙_}
-use Rattle.judge.specs.Line.{lineIn}
-use Rattle.judge.proofs.LineLaws.{no-big-line, some-big-line}
+use Rattle.judge.specs.Line.{lineOf, lineIn}
+use Rattle.judge.proofs.LineLaws.{none-big, some-big}
 use borrow.Author.Needs.{needs}
 use Rattle.judge.proofs.line.program_line.Statement.{statement}
 use Rattle.judge.proofs.line.program_line.Tie as tie
@@ -22,10 +22,10 @@ big-line-requires c κs = search needs
 returns : tie.Need-returns
 returns c =
     let e = c .before .before .before .first-big .ensures in
-    c .line-of .ensures ∙ ap lineIn (no-big-line _ e (c .before .before .if1 .taken) (c .before .judge .ensures) refl)
+    c .line-of .ensures ∙ ap lineIn (none-big _ _ e (c .before .before .if1 .taken) (ap lineOf (c .before .judge .ensures)))
 
 returns-2 : tie.Need-returns-2
-returns-2 c = c .big-line .ensures ∙ ap lineIn (some-big-line _ (c .before .before .first-big .ensures) (c .before .if1 .left) refl)
+returns-2 c = c .big-line .ensures ∙ ap lineIn (some-big _ _ (c .before .before .first-big .ensures) (c .before .if1 .left) refl)
 
 pub program-line-spec : {M : Type 1} → statement M
 program-line-spec =

@@ -1,9 +1,9 @@
--- `verdict::any_failed` is safe and ends.
+-- `folder::any_failed` is safe and ends.
 -- Assumes nothing.
 use Prim.Native.Nat.{_-_, _≤_}
 use borrow.Author.Needs.{needs}
-use Rattle.verdict.proofs.any_failed.Statement.{statement}
-use Rattle.verdict.proofs.any_failed.Tie as tie
+use Rattle.folder.proofs.any_failed.Statement.{statement}
+use Rattle.folder.proofs.any_failed.Tie as tie
 
 abbrev Inv-loop : tie.InvT-loop
 Inv-loop lens i₀ i = i ≤ 7

@@ -1,11 +1,11 @@
--- `verdict::load_from` is safe and ends: each turn reads on.
+-- `folder::load_from` is safe and ends: each turn reads on.
 -- Assumes nothing.
 use Prim.Native.Nat.{_-_, _≤_}
 use mathlib.Core.Path.{_≡_}
 use lib.ListN.{length}
 use borrow.Author.Needs.{needs}
-use Rattle.verdict.proofs.load_from.Statement.{statement}
-use Rattle.verdict.proofs.load_from.Tie as tie
+use Rattle.folder.proofs.load_from.Statement.{statement}
+use Rattle.folder.proofs.load_from.Tie as tie
 
 abbrev Inv-loop : tie.InvT-loop
 Inv-loop fd name buf₀ done₀ buf done = (done ≤ length buf) × (length buf ≡ length buf₀)

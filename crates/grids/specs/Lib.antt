@@ -1,0 +1,5 @@
+pub mod Grid
+pub mod Listed
+pub mod Sum
+pub mod Rows
+pub mod machinery
