@@ -8,6 +8,7 @@ mod throughout;
 use canopyrail::{Break, Grid, Verdict};
 use deliveries::{
     damage, damaged, full, lawful, write, Aim, Files, Outcome, Random, Size, AIMS, MOST_RECORDS,
+    RECORD,
 };
 
 /// How many damaged deliveries are compared.
@@ -192,6 +193,32 @@ fn rules_broken_throughout_at_full_size() {
         compare(&files, name);
         let told = canopyrail::judge(lent(&files));
         assert_eq!(told.to_string(), due, "{name}");
+    }
+}
+
+/// The whole records of each file in another order; bytes past the last whole one stay.
+fn shuffled(random: &mut Random, files: &Files) -> Files {
+    let mut shuffled = Files::default();
+    for (file, bytes) in files.iter().enumerate() {
+        let records = bytes.chunks_exact(RECORD[file]);
+        let rest = records.remainder();
+        let mut records: Vec<&[u8]> = records.collect();
+        random.shuffle(&mut records);
+        shuffled[file] = [&records.concat(), rest].concat();
+    }
+    shuffled
+}
+
+#[test]
+fn records_in_another_order_have_the_same_grid() {
+    for seed in 0..how_many() / 3 {
+        let mut random = Random::new(seed);
+        let (files, with) = damaged(&mut random);
+        let other = shuffled(&mut random, &files);
+        let what = format!("seed {seed}, shuffled: {}", aims(&with));
+        compare(&other, &what);
+        let grids = [files, other].map(|files| canopyrail::grid(lent(&files)));
+        assert_eq!(grids[0], grids[1], "{what}");
     }
 }
 

@@ -9,16 +9,11 @@ use crate::run::{flowing, grid, judge, run, Room, Run};
 
 /// The seven rows that have these counts, each with its file and group, and zeros elsewhere.
 fn rows(counts: &[(usize, usize, u64)]) -> String {
-    let mut text = String::new();
-    for file in 1..=7 {
-        for group in 1..=5 {
-            let here = |(f, g, _): &&(usize, usize, u64)| (*f, *g) == (file, group);
-            let count = counts.iter().find(here).map_or(0, |(_, _, count)| *count);
-            let after = if group == 5 { "\n" } else { " " };
-            text.push_str(&format!("{count:010}{after}"));
-        }
+    let mut rows = [["0000000000"; 5]; 7].map(|row| row.map(String::from));
+    for (file, group, count) in counts {
+        rows[file - 1][group - 1] = format!("{count:010}");
     }
-    text
+    rows.map(|row| row.join(" ") + "\n").concat()
 }
 
 /// S with a second name for each of its nodes' places, and with its tramo's ends exchanged: 54 twice, 52 and 53.

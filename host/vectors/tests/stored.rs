@@ -64,8 +64,11 @@ fn the_independent_checker_says_what_was_stated_by_hand() {
     }
 }
 
-/// Zeros but for these counts, each with its file and group from 1.
-fn rows(counts: &[(usize, usize, u64)]) -> String {
+/// Counts of breaks, each with its file and group from 1.
+type Counts = [(usize, usize, u64)];
+
+/// Zeros but for these counts.
+fn rows(counts: &Counts) -> String {
     let mut rows = [["0000000000"; 5]; 7].map(|row| row.map(String::from));
     for (file, group, count) in counts {
         rows[file - 1][group - 1] = format!("{count:010}");
@@ -77,7 +80,7 @@ fn rows(counts: &[(usize, usize, u64)]) -> String {
 #[test]
 fn the_independent_checker_counts_what_was_stated_by_hand() {
     let of_name: BTreeMap<_, _> = stated().into_iter().map(|s| (s.name, s.files)).collect();
-    let grids: [(&str, &[(usize, usize, u64)]); 8] = [
+    let grids: [(&str, &Counts); 8] = [
         ("rich", &[]),
         ("r11-lowest-of-two-files", &[(2, 1, 1), (4, 1, 1)]),
         ("r20-lowest-file-first", &[(2, 2, 1), (3, 2, 1)]),
