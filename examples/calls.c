@@ -29,6 +29,7 @@ enum {
     FILES = CANOPYRAIL_FILES
 };
 enum { FIELDS = CANOPYRAIL_FIELDS, TEXT = CANOPYRAIL_TEXT, TEXTS = FIELDS * TEXT };
+enum { GROUPS = CANOPYRAIL_GROUPS, CELLS = CANOPYRAIL_CELLS };
 
 static unsigned long checks;
 
@@ -245,19 +246,40 @@ static canopyrail_bytes *lend_files(const delivery *d, size_t n)
     return files;
 }
 
-/* Judges by an array of n entries; what is lent must stay as it was. */
-static uint64_t judge_first(const delivery *d, size_t n)
-{
-    canopyrail_bytes *files = lend_files(d, n);
+/* A delivery's files in lent memory, and the entries as they were lent. */
+typedef struct {
+    const delivery *delivery;
+    canopyrail_bytes *files;
     canopyrail_bytes before[2 * FILES];
+    size_t n;
+} lent_delivery;
+
+static lent_delivery lend_delivery(const delivery *d, size_t n)
+{
+    lent_delivery l = {.delivery = d, .files = lend_files(d, n), .n = n};
 
     NEED(n <= 2 * FILES);
     if (n > 0)
-        memcpy(before, files, n * sizeof *files);
-    uint64_t answer = canopyrail_judge(files, n);
-    CHECK(n == 0 || memcmp(before, files, n * sizeof *files) == 0);
-    for (size_t i = 0; i < n && i < FILES; i++)
-        CHECK(files[i].len == 0 || memcmp(files[i].bytes, d->files[i + 1].bytes, files[i].len) == 0);
+        memcpy(l.before, l.files, n * sizeof *l.files);
+    return l;
+}
+
+/* What was only to be read must be as it was. */
+static void check_unchanged(const lent_delivery *l)
+{
+    CHECK(l->n == 0 || memcmp(l->before, l->files, l->n * sizeof *l->files) == 0);
+    for (size_t i = 0; i < l->n && i < FILES; i++)
+        CHECK(l->files[i].len == 0 ||
+              memcmp(l->files[i].bytes, l->delivery->files[i + 1].bytes, l->files[i].len) == 0);
+}
+
+/* Judges by an array of n entries. */
+static uint64_t judge_first(const delivery *d, size_t n)
+{
+    lent_delivery l = lend_delivery(d, n);
+    uint64_t answer = canopyrail_judge(l.files, n);
+
+    check_unchanged(&l);
     give_back();
     return answer;
 }
@@ -447,6 +469,209 @@ static void check_header(void)
     CHECK(canopyrail_form(NODO, 3) == CANOPYRAIL_FORM_SIGN);
     CHECK(canopyrail_form(NODO, 4) == CANOPYRAIL_FORM_COORDINATE);
     CHECK(canopyrail_form(NODO, 0) == 0 && canopyrail_form(0, 1) == 0);
+}
+
+/* ------------------------------------------------------------------------------ grids */
+
+/* A grid, and the answer with which it came. */
+typedef struct {
+    uint64_t cells[CELLS];
+    uint64_t answer;
+} counted;
+
+/* Counts by an array of n entries into so many cells; a refusal must leave them as they were, and any call those past the grid. */
+static counted count_into(const delivery *d, size_t n, size_t cells_len)
+{
+    lent_delivery l = lend_delivery(d, n);
+    uint64_t *cells = lend_pattern(cells_len * sizeof *cells);
+    counted c = {.answer = canopyrail_grid(l.files, n, cells, cells_len)};
+
+    check_unchanged(&l);
+    CHECK(untouched(cells, c.answer == 0 ? sizeof c.cells : 0, cells_len * sizeof *cells));
+    if (c.answer == 0)
+        memcpy(c.cells, cells, sizeof c.cells);
+    give_back();
+    return c;
+}
+
+static counted count_first(const delivery *d, size_t n)
+{
+    counted c = count_into(d, n, CELLS);
+
+    CHECK(c.answer == 0);
+    return c;
+}
+
+static counted count(const delivery *d)
+{
+    return count_first(d, FILES);
+}
+
+static uint64_t cell(const counted *c, size_t f, size_t group)
+{
+    return c->cells[GROUPS * (f - 1) + group - 1];
+}
+
+static uint64_t total(const counted *c)
+{
+    uint64_t sum = 0;
+
+    for (size_t i = 0; i < CELLS; i++)
+        sum += c->cells[i];
+    return sum;
+}
+
+/* All breaks of the delivery are so many of one file, in one group. */
+static int has(const delivery *d, size_t f, size_t group, uint64_t many)
+{
+    counted c = count(d);
+
+    return cell(&c, f, group) == many && total(&c) == many;
+}
+
+static void check_counts(void)
+{
+    delivery s = small();
+    delivery d = changed(TRAMO, 1, 6, "0000000008|0000000009");
+    counted c = count(&s);
+
+    CHECK(FILES == 7 && GROUPS == 5 && CELLS == 35);
+    CHECK(total(&c) == 0);
+    CHECK(has(&d, TRAMO, 4, 2));
+    d = changed(NODO, 1, 1, "         1;");
+    CHECK(has(&d, NODO, 2, 2)); /* 21 and 22 at one field */
+    d = small();
+    for (int i = 0; i < 3; i++)
+        add_node(&d, "0000000001", "000000100", "0000000200");
+    CHECK(has(&d, NODO, 3, 3)); /* one for each later record, not for each pair */
+    d.files[VERTICE].length -= 1;
+    d.files[CATALOGO].length -= 1;
+    c = count(&d);
+    CHECK(cell(&c, VERTICE, 1) == 1 && cell(&c, CATALOGO, 1) == 1 && total(&c) == 2);
+    d = small();
+    add_node(&d, "0000000003", "000000000", "0000000000");
+    add_node(&d, "0000000004", "000000000", "0000000000");
+    add_node(&d, "0000000005", "000000000", "0000000000");
+    CHECK(has(&d, NODO, 5, 5)); /* 56 three times, 54 twice */
+}
+
+/* Fewer entries than files, more entries than files, and entries that are null, as in judging. */
+static void check_counted_entries(void)
+{
+    static const canopyrail_bytes nulls[FILES] = {{NULL, 0}};
+    delivery s = small();
+    delivery bad = changed(NODO, 2, 4, "000000141");
+    counted whole = count(&bad);
+
+    for (size_t n = 0; n <= FILES; n++) {
+        delivery cut = s;
+        for (size_t f = n + 1; f <= FILES; f++)
+            cut.files[f].length = 0;
+        counted first = count_first(&s, n), second = count(&cut), none = {.answer = 1};
+        CHECK(memcmp(first.cells, second.cells, sizeof first.cells) == 0);
+        CHECK((total(&first) == 0) == (judge_first(&s, n) == 0));
+        CHECK(canopyrail_grid(n == 0 ? NULL : nulls, n, none.cells, CELLS) == 0);
+        CHECK(total(&none) == 0);
+    }
+    for (size_t n = FILES + 1; n <= 2 * FILES; n++) {
+        counted more = count_first(&bad, n);
+        CHECK(memcmp(more.cells, whole.cells, sizeof whole.cells) == 0);
+    }
+}
+
+/* Room for fewer cells than a grid has, for just as many, and for more. */
+static void check_counted_room(void)
+{
+    delivery s = small();
+    delivery bad = changed(NODO, 2, 4, "000000141");
+
+    for (size_t room = 0; room < CELLS; room++) {
+        CHECK(is(count_into(&s, FILES, room).answer, CANOPYRAIL_SHORT_ROOM, 0, 0, 0, 0));
+        CHECK(is(count_into(&bad, FILES, room).answer, CANOPYRAIL_SHORT_ROOM, 0, 0, 0, 0));
+    }
+    CHECK(count_into(&s, 0, 0).answer == UINT64_C(6100000000000000));
+    for (size_t room = CELLS; room < CELLS + 4; room++) {
+        counted c = count_into(&bad, FILES, room);
+        CHECK(c.answer == 0 && cell(&c, TRAMO, 5) == 1 && total(&c) == 1);
+    }
+}
+
+/* The most that a cell of a sum may hold. */
+#define MOST UINT64_C(9999999999)
+
+/* A lent grid of so many cells, all different and small; past the 35th they are not looked at, and no sum would do. */
+static uint64_t *lend_cells(size_t cells_len, uint64_t step)
+{
+    uint64_t *cells = lend(cells_len * sizeof *cells);
+
+    for (size_t i = 0; i < cells_len; i++)
+        cells[i] = i < CELLS ? step * (i + 1) : UINT64_MAX - i;
+    return cells;
+}
+
+/* Adds grids of so many cells; a refusal must leave both as they were, and any call what it only reads and what lies past a grid. */
+static uint64_t add_grids(size_t into_len, size_t from_len)
+{
+    uint64_t *into = lend_cells(into_len, 3), *from = lend_cells(from_len, 100);
+    uint64_t answer = canopyrail_grid_add(into, into_len, from, from_len);
+
+    for (size_t i = 0; i < into_len; i++)
+        CHECK(into[i] == (i >= CELLS ? UINT64_MAX - i : answer == 0 ? 103 * (i + 1) : 3 * (i + 1)));
+    for (size_t i = 0; i < from_len; i++)
+        CHECK(from[i] == (i < CELLS ? 100 * (i + 1) : UINT64_MAX - i));
+    give_back();
+    return answer;
+}
+
+static void check_sums(void)
+{
+    for (size_t more = 0; more < 3; more++) {
+        CHECK(add_grids(CELLS + more, CELLS) == 0);
+        CHECK(add_grids(CELLS, CELLS + more) == 0);
+    }
+    for (size_t less = 1; less <= CELLS; less++) {
+        CHECK(is(add_grids(CELLS - less, CELLS), CANOPYRAIL_SHORT_ROOM, 0, 0, 0, 0));
+        CHECK(is(add_grids(CELLS, CELLS - less), CANOPYRAIL_SHORT_ROOM, 0, 0, 0, 0));
+        CHECK(is(add_grids(CELLS - less, CELLS - less), CANOPYRAIL_SHORT_ROOM, 0, 0, 0, 0));
+    }
+    CHECK(canopyrail_grid_add(NULL, 0, NULL, 0) == UINT64_C(6100000000000000));
+}
+
+/* Adds two grids that are zero but for one cell each; a refusal must leave both. */
+static uint64_t add_cells(size_t at, uint64_t a, uint64_t b)
+{
+    uint64_t *into = lend_cells(CELLS, 0), *from = lend_cells(CELLS, 0);
+
+    into[at] = a;
+    from[at] = b;
+    uint64_t answer = canopyrail_grid_add(into, CELLS, from, CELLS);
+    for (size_t i = 0; i < CELLS; i++) {
+        CHECK(into[i] == (i != at ? 0 : answer == 0 ? a + b : a));
+        CHECK(from[i] == (i != at ? 0 : b));
+    }
+    give_back();
+    return answer;
+}
+
+/* Sums at the edge, in each cell: the most and one more, and those that are over 64 bits. */
+static void check_large_sums(void)
+{
+    static const struct {
+        uint64_t a, b;
+    } over[] = {
+        {MOST, 1}, {1, MOST}, {MOST, MOST}, {MOST + 1, 0}, {0, MOST + 1}, {UINT64_MAX, 1}, {1, UINT64_MAX}, {UINT64_MAX, UINT64_MAX},
+        {UINT64_MAX - 5, 7}, {UINT64_C(1) << 63, UINT64_C(1) << 63},
+    };
+
+    for (size_t at = 0; at < CELLS; at++) {
+        CHECK(add_cells(at, MOST, 0) == 0);
+        CHECK(add_cells(at, 0, MOST) == 0);
+        CHECK(add_cells(at, MOST - 1, 1) == 0);
+        CHECK(add_cells(at, 1, MOST - 1) == 0);
+        for (size_t i = 0; i < sizeof over / sizeof *over; i++)
+            CHECK(is(add_cells(at, over[i].a, over[i].b), CANOPYRAIL_SUM_TOO_LARGE, 0, 0, 0, 0));
+    }
+    CHECK(add_cells(0, MOST, 1) == UINT64_C(6700000000000000));
 }
 
 /* ------------------------------------------------------------------------------ one record */
@@ -796,6 +1021,11 @@ static void check_all(void)
     check_cases();
     check_long_file();
     check_beginnings();
+    check_counts();
+    check_counted_entries();
+    check_counted_room();
+    check_sums();
+    check_large_sums();
     check_case_14();
     check_round_trips();
     check_read_refusals();

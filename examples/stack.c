@@ -1,7 +1,8 @@
 /*
  * How much stack the calls take: those on each delivery named, and on one of many nodes at one place (more records than short arrays
- * serve, and nothing is shown quickly), are made on a thread whose stack was painted before, and what lost its paint is counted. Prints the most that a judging and any other call took, and fails where that passes CANOPYRAIL_STACK or the
- * 64 KiB that the header names for the others.
+ * serve, and nothing is shown quickly), are made on a thread whose stack was painted before, and what lost its paint is counted. Prints
+ * the most that a judging, a counting of breaks and any other call took, and fails where that passes CANOPYRAIL_STACK or the 64 KiB that
+ * the header names for the others.
  *
  *     cc -std=c11 -pthread -I include examples/stack.c "$(tools/archive)/libcanopyrail.a" -o stack
  *     ./stack DIR...
@@ -25,6 +26,8 @@ static canopyrail_bytes files[FILES];
 /* What the calls are lent and what they answer; on the thread's own stack it would be counted. */
 static canopyrail_values values;
 static uint8_t room[CANOPYRAIL_LONGEST];
+static uint64_t cells[CANOPYRAIL_CELLS];
+static uint64_t sums[CANOPYRAIL_CELLS];
 static volatile uint64_t answered;
 
 static void idle(void)
@@ -34,6 +37,11 @@ static void idle(void)
 static void judge(void)
 {
     answered = canopyrail_judge(files, FILES);
+}
+
+static void count(void)
+{
+    answered = canopyrail_grid(files, FILES, cells, CANOPYRAIL_CELLS);
 }
 
 /* Reads a record and writes it again; a record that can't be read is refused. */
@@ -50,10 +58,11 @@ static void ask_table(size_t file)
         answered = canopyrail_offset(file, field) + canopyrail_width(file, field) + canopyrail_form(file, field);
 }
 
-/* Every call but the judging; record 0 and the one past the last too. */
+/* Every call but the two that judge; record 0 and the one past the last too. */
 static void others(void)
 {
     answered = canopyrail_version();
+    answered = canopyrail_grid_add(sums, CANOPYRAIL_CELLS, cells, CANOPYRAIL_CELLS);
     for (size_t file = 1; file <= FILES; file++) {
         size_t records = canopyrail_count(file, files[file - 1].bytes, files[file - 1].len);
         for (size_t record = 0; record <= records + 1; record++)
@@ -152,6 +161,7 @@ int main(int argc, char **argv)
 {
     size_t least = taken(idle);
     size_t judging = least;
+    size_t counting = least;
     size_t other = least;
 
     if (argc < 2) {
@@ -165,6 +175,7 @@ int main(int argc, char **argv)
         }
         load(argv[i]);
         judging = greater(judging, taken(judge));
+        counting = greater(counting, taken(count));
         other = greater(other, taken(others));
     }
     for (size_t i = 0; i < FILES; i++)
@@ -175,8 +186,10 @@ int main(int argc, char **argv)
         fprintf(stderr, "stack: many nodes at one place are told as %d\n", (int)canopyrail_reason(answered));
         return 2;
     }
+    counting = greater(counting, taken(count));
     judging -= least;
+    counting -= least;
     other -= least;
-    printf("stack: a judging takes at most %zu bytes, another call at most %zu\n", judging, other);
-    return judging > CANOPYRAIL_STACK || other >= OTHERS;
+    printf("stack: a judging takes at most %zu bytes, a counting %zu, another call %zu\n", judging, counting, other);
+    return judging > CANOPYRAIL_STACK || counting > CANOPYRAIL_STACK || other >= OTHERS;
 }

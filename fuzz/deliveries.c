@@ -4,8 +4,9 @@
  * An input is seven lengths of two bytes, the low byte first, and then the bytes of the seven files; what is missing is empty. A
  * delivery is held against what is true of every delivery: an answer is a reason of the table at a place that is there, the same
  * again when asked again; a record is read exactly if the judge does not refuse it with 20 to 25 at or before it; what is read is
- * written back byte for byte; a refused call leaves what it was lent; an accepted delivery stays accepted with its records turned
- * round.
+ * written back byte for byte; a refused call leaves what it was lent; of the breaks counted there is none exactly if the delivery is
+ * accepted, else they are all of one ten, and the one shown is among them; a grid added to itself is doubled; with the records turned
+ * round as many breaks are counted as before.
  */
 #include <stdio.h>
 #include <stdlib.h>
@@ -13,7 +14,7 @@
 
 #include "canopyrail.h"
 
-enum { FILES = CANOPYRAIL_FILES, HEAD = 2 * FILES, MOST = 65536 };
+enum { FILES = CANOPYRAIL_FILES, GROUPS = CANOPYRAIL_GROUPS, CELLS = CANOPYRAIL_CELLS, HEAD = 2 * FILES, MOST = 65536 };
 
 typedef struct {
     uint8_t *bytes;
@@ -57,13 +58,18 @@ static void take_apart(const uint8_t *data, size_t size, held files[FILES])
 }
 
 /* The entries are in a block of their own too. */
-static uint64_t judge_first(const held files[FILES], size_t n)
+static canopyrail_bytes *lend(const held files[FILES], size_t n)
 {
     canopyrail_bytes *lent = (canopyrail_bytes *)(void *)block(n * sizeof *lent);
-    uint64_t answer;
     for (size_t i = 0; i < n; i++)
         lent[i] = (canopyrail_bytes){files[i].bytes, files[i].length};
-    answer = canopyrail_judge(lent, n);
+    return lent;
+}
+
+static uint64_t judge_first(const held files[FILES], size_t n)
+{
+    canopyrail_bytes *lent = lend(files, n);
+    uint64_t answer = canopyrail_judge(lent, n);
     free(lent);
     return answer;
 }
@@ -101,6 +107,73 @@ static void check_place(uint64_t answer, const held files[FILES])
     count = canopyrail_count(file, files[file - 1].bytes, files[file - 1].length);
     must(record <= count + (canopyrail_reason(answer) == 11), "a record that is there");
     must(canopyrail_field(answer) <= canopyrail_fields(file), "a field that is there");
+}
+
+/* A grid in a block of its own. */
+static uint64_t *grid_first(const held files[FILES], size_t n)
+{
+    canopyrail_bytes *lent = lend(files, n);
+    uint64_t *cells = (uint64_t *)(void *)block(CELLS * sizeof *cells);
+    memset(cells, 0xEE, CELLS * sizeof *cells);
+    must(canopyrail_reason(canopyrail_grid(lent, n, cells, CELLS - 1)) == 61, "a grid has no room in fewer cells");
+    must(cells[0] == UINT64_C(0xEEEEEEEEEEEEEEEE) && cells[CELLS - 2] == cells[0], "a refused counting leaves what it was lent");
+    must(canopyrail_grid(lent, n, cells, CELLS) == 0, "every delivery has a grid");
+    free(lent);
+    return cells;
+}
+
+static uint64_t of_group(const uint64_t *cells, size_t group)
+{
+    uint64_t sum = 0;
+    for (size_t file = 1; file <= FILES; file++)
+        sum += cells[GROUPS * (file - 1) + group - 1];
+    return sum;
+}
+
+static uint64_t of_all(const uint64_t *cells)
+{
+    uint64_t sum = 0;
+    for (size_t group = 1; group <= GROUPS; group++)
+        sum += of_group(cells, group);
+    return sum;
+}
+
+static void check_doubled(const uint64_t *cells)
+{
+    uint64_t twice[CELLS];
+    memcpy(twice, cells, sizeof twice);
+    must(canopyrail_grid_add(twice, CELLS, cells, CELLS) == 0, "two grids of one delivery have a sum");
+    for (size_t i = 0; i < CELLS; i++)
+        must(twice[i] == 2 * cells[i], "a grid added to itself is doubled");
+}
+
+/* Adds a grid to the most that cells may hold: refused where there is any break. */
+static void check_full(const uint64_t *cells)
+{
+    uint64_t full[CELLS];
+    uint64_t answer;
+    for (size_t i = 0; i < CELLS; i++)
+        full[i] = UINT64_C(9999999999);
+    answer = canopyrail_grid_add(full, CELLS, cells, CELLS);
+    must(canopyrail_reason(answer) == (of_all(cells) == 0 ? 0 : 67), "a sum of more than ten digits");
+    for (size_t i = 0; i < CELLS; i++)
+        must(full[i] == UINT64_C(9999999999), "a refused sum leaves what it was lent");
+}
+
+static void check_grid(uint64_t answer, const held files[FILES])
+{
+    uint64_t *cells = grid_first(files, FILES), *fewer = grid_first(files, given(files));
+    must(memcmp(cells, fewer, CELLS * sizeof *cells) == 0, "the same grid where empty files at the end are left out");
+    must((of_all(cells) == 0) == (answer == 0), "no break is counted exactly if the delivery is accepted");
+    if (answer != 0) {
+        size_t group = (size_t)canopyrail_reason(answer) / 10, file = (size_t)canopyrail_file(answer);
+        must(cells[GROUPS * (file - 1) + group - 1] >= 1, "the break shown is counted");
+        must(of_group(cells, group) == of_all(cells), "all breaks counted are of one ten");
+    }
+    check_doubled(cells);
+    check_full(cells);
+    free(cells);
+    free(fewer);
 }
 
 /* The least (file, record) whose record can't be read, as one number; 0 where all can. */
@@ -148,6 +221,18 @@ static void turn_round(held files[FILES])
     }
 }
 
+/* Turns the records round: accepted as before or refused as before, with the same grid. */
+static void check_order(uint64_t answer, held files[FILES])
+{
+    uint64_t *before = grid_first(files, FILES), *after;
+    turn_round(files);
+    must((judge(files) == 0) == (answer == 0), "in another order accepted too, or refused too");
+    after = grid_first(files, FILES);
+    must(memcmp(before, after, CELLS * sizeof *before) == 0, "the same grid in another order");
+    free(before);
+    free(after);
+}
+
 int LLVMFuzzerTestOneInput(const uint8_t *data, size_t size)
 {
     held files[FILES];
@@ -156,11 +241,10 @@ int LLVMFuzzerTestOneInput(const uint8_t *data, size_t size)
     answer = judge(files);
     must(judge(files) == answer, "the same answer again");
     must(judge_first(files, given(files)) == answer, "empty files at the end may be left out");
+    check_grid(answer, files);
     unread = read_all(files);
     if (answer == 0) {
         must(unread == 0, "every record of an accepted delivery is read");
-        turn_round(files);
-        must(judge(files) == 0, "accepted in another order too");
     } else {
         uint64_t reason = canopyrail_reason(answer);
         check_place(answer, files);
@@ -169,6 +253,7 @@ int LLVMFuzzerTestOneInput(const uint8_t *data, size_t size)
         if (reason >= 20 && reason < 30)
             must(unread == canopyrail_file(answer) * 100000 + canopyrail_record(answer), "the first record that can't be read is shown");
     }
+    check_order(answer, files);
     for (size_t i = 0; i < FILES; i++)
         free(files[i].bytes);
     return 0;

@@ -14,15 +14,16 @@
  * NULL AND ALIGNMENT. A pointer with length 0 is never followed and may be null: an absent or empty file is {NULL, 0}. Any other
  * pointer must be valid for its length and aligned as C aligns its type (bytes need none). No length may pass PTRDIFF_MAX bytes.
  *
- * STACK. canopyrail_judge takes up to CANOPYRAIL_STACK bytes of stack, whatever the files' sizes (docs/BENCHMARKS.md has the
- * measured figure); the other calls take less than 64 KiB. A thread that judges must have been made with as much and what it uses
- * itself, which is often not so where nothing is said: pthread_attr_setstacksize(&attr, CANOPYRAIL_STACK + 64 * 1024) before
- * pthread_create, as examples/judge.c does. A stack that is too small is met at its guard page and ends the program; nothing is
- * written past it.
+ * STACK. canopyrail_judge and canopyrail_grid take up to CANOPYRAIL_STACK bytes of stack, whatever the files' sizes
+ * (docs/BENCHMARKS.md has the measured figure); the other calls take less than 64 KiB. A thread that judges must have been made with
+ * as much and what it uses itself, which is often not so where nothing is said: pthread_attr_setstacksize(&attr, CANOPYRAIL_STACK +
+ * 64 * 1024) before pthread_create, as examples/judge.c does. A stack that is too small is met at its guard page and ends the program;
+ * nothing is written past it.
  *
  * ANSWERS. A call that can refuse answers with one number. 0 says that nothing is wrong. Any other is a reason with its place, and the
  * calls canopyrail_reason, _file, _record, _field and _other take it apart. As a decimal number it has the digits of
  * reason (2), file (2), record (5), field (2), other (5): 53 05 00001 07 00000. Calls on one record tell no file and no record: 0.
+ * Calls on grids tell no place at all.
  */
 #ifndef CANOPYRAIL_H
 #define CANOPYRAIL_H
@@ -37,7 +38,7 @@ extern "C" {
 /* The version of this header, and as one number; canopyrail_version() tells the archive's. */
 #define CANOPYRAIL_VERSION_MAJOR 0
 #define CANOPYRAIL_VERSION_MINOR 2
-#define CANOPYRAIL_VERSION_PATCH 0
+#define CANOPYRAIL_VERSION_PATCH 1
 #define CANOPYRAIL_VERSION (CANOPYRAIL_VERSION_MAJOR * 10000 + CANOPYRAIL_VERSION_MINOR * 100 + CANOPYRAIL_VERSION_PATCH)
 
 /* How many files a delivery has, and their numbers. */
@@ -52,13 +53,16 @@ enum canopyrail_file_number {
     CANOPYRAIL_NODO = 7
 };
 
+/* How many groups of reasons there are, by their tens: 10 to 11, 20 to 25, 30, 40 to 41, 50 to 59; and how many cells a grid has. */
+#define CANOPYRAIL_GROUPS 5
+#define CANOPYRAIL_CELLS (CANOPYRAIL_FILES * CANOPYRAIL_GROUPS)
 /* At most so many records a file; a longer file is refused with reason 10. */
 #define CANOPYRAIL_RECORDS 16384
 /* The most fields a record has, the bytes of the longest text, and the bytes of the longest record. */
 #define CANOPYRAIL_FIELDS 14
 #define CANOPYRAIL_TEXT 60
 #define CANOPYRAIL_LONGEST 149
-/* Stack for canopyrail_judge. */
+/* Stack for canopyrail_judge and canopyrail_grid. */
 #define CANOPYRAIL_STACK (4u * 1024u * 1024u)
 
 /*
@@ -94,7 +98,9 @@ enum canopyrail_reason_number {
     CANOPYRAIL_BAD_TEXT = 63,         /* writing: the text is too long, has a byte outside the A set, or begins or ends in a blank */
     CANOPYRAIL_NOT_GIVEN = 64,        /* writing: missing where it may not be, by the partner rule too */
     CANOPYRAIL_UNFIT = 65,            /* writing: outside its domain */
-    CANOPYRAIL_NO_SUCH_RECORD = 66    /* reading: the record number is 0 or above the whole records in hand: field 0 */
+    CANOPYRAIL_NO_SUCH_RECORD = 66,   /* reading: the record number is 0 or above the whole records in hand: field 0 */
+    /* of the calls on grids, besides 61 */
+    CANOPYRAIL_SUM_TOO_LARGE = 67     /* a cell of two grids' sum is over 9,999,999,999 */
 };
 
 /* The version of the archive that is linked: CANOPYRAIL_VERSION where header and archive belong together. */
@@ -113,6 +119,23 @@ typedef struct canopyrail_bytes {
  * Files past the n-th entry are empty, so (NULL, 0) is a delivery of empty files; entries past CANOPYRAIL_FILES are not looked at.
  */
 uint64_t canopyrail_judge(const canopyrail_bytes *files, size_t n);
+
+/*
+ * Counts the breaks of a delivery, whose files are lent as to canopyrail_judge. 0: the first CANOPYRAIL_CELLS cells are its grid, and
+ * what lies past them is as it was. Else the refusal, 61 where there are fewer cells, and they are as they were.
+ *
+ * The cell of a file's breaks whose reason has the tens g, 1 to 5, is cells[CANOPYRAIL_GROUPS * (file - 1) + g - 1]. Counted is the lowest
+ * ten that has any break, each of its breaks once; all other cells are 0. So they are all 0 exactly if canopyrail_judge accepts the
+ * delivery, and the break that it tells is one of those counted.
+ */
+uint64_t canopyrail_grid(const canopyrail_bytes *files, size_t n, uint64_t *cells, size_t cells_len);
+
+/*
+ * Adds a grid to another, cell by cell. 0: the first CANOPYRAIL_CELLS cells of `into` are the sums, and what lies past them is as it
+ * was. Else the refusal, 61 where either has fewer cells, then 67 where a sum is over 9,999,999,999, and both are as they were. The two
+ * must not overlap: a grid is doubled by way of a copy.
+ */
+uint64_t canopyrail_grid_add(uint64_t *into, size_t into_len, const uint64_t *from, size_t from_len);
 
 /* An answer taken apart: the reason's number, the place, and what else the reason tells (0 where it tells nothing else). */
 uint64_t canopyrail_reason(uint64_t answer);

@@ -13,6 +13,7 @@ typedef __UINT8_TYPE__ uint8_t;
 typedef __INT64_TYPE__ int64_t;
 typedef __UINT64_TYPE__ uint64_t;
 #define SIZE_MAX __SIZE_MAX__
+#define UINT64_MAX __UINT64_MAX__
 #define INT64_MIN (-__INT64_MAX__ - 1)
 #define UINT64_C(n) n##UL
 #define PRIu64 __UINT64_FMTu__

@@ -12,6 +12,8 @@ use crate::failure::Misuse;
 pub enum Takes {
     /// --strict
     Strict,
+    /// --strict and --words
+    StrictAndWords,
     /// --as NAME
     Name,
 }
@@ -21,6 +23,7 @@ pub struct Given<'a> {
     pub words: Vec<&'a OsStr>,
     pub name: Option<OsString>,
     pub strict: bool,
+    pub in_words: bool,
     pub help: bool,
 }
 
@@ -32,6 +35,14 @@ impl Given<'_> {
             [] => Err(Misuse::NoDirectory),
             _ => Err(Misuse::SeveralDirectories),
         }
+    }
+
+    /// The folders whose breaks are to be counted.
+    pub fn directories(&self) -> Result<Vec<&Path>, Misuse> {
+        if self.words.is_empty() {
+            return Err(Misuse::NoDirectory);
+        }
+        self.words.iter().map(|word| filled(word)).collect()
     }
 
     /// The file that is to be shown, its number, and the record.
@@ -61,13 +72,15 @@ pub fn given(rest: &[OsString], takes: Takes) -> Result<Given<'_>, Misuse> {
         words: Vec::new(),
         name: None,
         strict: false,
+        in_words: false,
         help: false,
     };
     let mut each = rest.iter().map(OsString::as_os_str);
     while let Some(word) = each.next() {
         match (word.to_str(), takes) {
             (Some("--help" | "-h"), _) => given.help = true,
-            (Some("--strict"), Takes::Strict) => given.strict = true,
+            (Some("--strict"), Takes::Strict | Takes::StrictAndWords) => given.strict = true,
+            (Some("--words"), Takes::StrictAndWords) => given.in_words = true,
             (Some("--as"), Takes::Name) => match each.next() {
                 Some(name) => given.name = Some(name.to_os_string()),
                 None => return Err(Misuse::NoName),

@@ -4,11 +4,12 @@
 //! What makes every block below sound: a Rust slice or array is valid for its length, aligned for
 //! its type and at most `isize::MAX` bytes long; its pointer is never null, not even at length 0; a
 //! call only borrows, keeps nothing, and writes nothing but memory that is passed here as `&mut`,
-//! which overlaps no other. Every call but the judging takes less than 64 KiB of stack
+//! which overlaps no other. Every call but those that judge takes less than 64 KiB of stack
 //! (examples/stack.c measures it), and a stack with less left is met at its guard page
 //! (tests/guard.c), as with any function.
 
 use std::io;
+use std::panic;
 use std::thread;
 
 use crate::Reason;
@@ -19,9 +20,13 @@ pub const FILES: usize = 7;
 pub const FIELDS: usize = 14;
 /// The bytes of the longest text.
 pub const TEXT: usize = 60;
-/// The judging takes at most so many bytes of stack: `CANOPYRAIL_STACK` of the header.
+/// How many groups of reasons there are, by their tens.
+pub const GROUPS: usize = 5;
+/// How many cells a grid has.
+const CELLS: usize = FILES * GROUPS;
+/// A judging takes at most so many bytes of stack: `CANOPYRAIL_STACK` of the header.
 pub const STACK: usize = 4 * 1024 * 1024;
-/// What the judging thread's own start and end may take beside it.
+/// What a judging thread's own start and end may take beside it.
 const BESIDE: usize = 256 * 1024;
 
 /// The values of one record, laid out as the calls take them: the value of field f at index f - 1.
@@ -51,6 +56,10 @@ struct Bytes {
     len: usize,
 }
 
+/// Counts of breaks: a row for each file, and in it a cell for each group. As the calls take them,
+/// the cells of one row after those of another.
+pub type Rows = [[u64; GROUPS]; FILES];
+
 /// What an answer tells, taken apart.
 pub struct Told {
     pub reason: Reason,
@@ -64,6 +73,11 @@ pub struct Told {
 extern "C" {
     fn canopyrail_version() -> u64;
     fn canopyrail_judge(files: *const Bytes, n: usize) -> u64;
+    fn canopyrail_grid(files: *const Bytes, n: usize, cells: *mut u64, cells_len: usize) -> u64;
+    fn canopyrail_grid_add(
+        into: *mut u64, into_len: usize,
+        from: *const u64, from_len: usize,
+    ) -> u64;
     fn canopyrail_reason(answer: u64) -> u64;
     fn canopyrail_file(answer: u64) -> u64;
     fn canopyrail_record(answer: u64) -> u64;
@@ -97,18 +111,10 @@ pub fn version() -> u64 {
     unsafe { canopyrail_version() }
 }
 
-/// Judges on a thread of its own, whose stack is known to do: a safe function may not ask for more
-/// stack than its caller has. The error is the system's, where no thread can be made.
+/// Judges on a thread of its own. The error is the system's, where no thread can be made.
 pub fn judge(files: &[&[u8]; FILES]) -> io::Result<u64> {
-    // SAFETY: the thread below has STACK bytes for the judging.
-    let work = || unsafe { judge_here(files) };
-    thread::scope(|scope| {
-        let thread = thread::Builder::new()
-            .name("judging".to_string())
-            .stack_size(STACK + BESIDE)
-            .spawn_scoped(scope, work)?;
-        Ok(thread.join().expect("a judging does not unwind"))
-    })
+    // SAFETY: the thread has STACK bytes for the judging.
+    on_a_thread(|| unsafe { judge_here(files) })
 }
 
 /// Judges on this thread.
@@ -117,13 +123,65 @@ pub fn judge(files: &[&[u8]; FILES]) -> io::Result<u64> {
 ///
 /// The thread has STACK bytes of stack left.
 pub unsafe fn judge_here(files: &[&[u8]; FILES]) -> u64 {
-    let lent = files.map(|file| Bytes {
-        bytes: file.as_ptr(),
-        len: file.len(),
-    });
+    let lent = lent(files);
     // SAFETY: an array with its length, and in it slices, each with its own; the call only reads
     // them. It has the stack that it takes.
     unsafe { canopyrail_judge(lent.as_ptr(), lent.len()) }
+}
+
+/// Counts the breaks on a thread of its own. The error is the system's, where no thread can be made.
+pub fn grid(files: &[&[u8]; FILES]) -> io::Result<Rows> {
+    // SAFETY: the thread has STACK bytes for the counting.
+    on_a_thread(|| unsafe { grid_here(files) })
+}
+
+/// Counts the breaks on this thread.
+///
+/// # Panics
+///
+/// Where a grid has more cells than this crate knows, which is so in an archive of another version.
+///
+/// # Safety
+///
+/// The thread has STACK bytes of stack left.
+pub unsafe fn grid_here(files: &[&[u8]; FILES]) -> Rows {
+    let lent = lent(files);
+    let mut rows = Rows::default();
+    let cells = rows.as_mut_ptr().cast();
+    // SAFETY: as in judging; and an array apart from those, lent for writing with the length in
+    // numbers that its rows have together.
+    let answer = unsafe { canopyrail_grid(lent.as_ptr(), lent.len(), cells, CELLS) };
+    // A grid that was refused is all zeros still, and would look like an accepted delivery's.
+    assert_eq!(answer, 0, "libcanopyrail.a is of another version");
+    rows
+}
+
+/// Adds the second to the first.
+pub fn grid_add(into: &mut Rows, from: &Rows) -> u64 {
+    // SAFETY: two arrays apart from each other, each with the length in numbers that its rows have
+    // together; the second is only read.
+    unsafe { canopyrail_grid_add(into.as_mut_ptr().cast(), CELLS, from.as_ptr().cast(), CELLS) }
+}
+
+fn lent(files: &[&[u8]; FILES]) -> [Bytes; FILES] {
+    files.map(|file| Bytes {
+        bytes: file.as_ptr(),
+        len: file.len(),
+    })
+}
+
+/// Does work that judges on a thread of its own, whose stack is known to do: a safe function may
+/// not ask for more stack than its caller has.
+fn on_a_thread<T: Send>(work: impl FnOnce() -> T + Send) -> io::Result<T> {
+    thread::scope(|scope| {
+        let thread = thread::Builder::new()
+            .name("judging".to_string())
+            .stack_size(STACK + BESIDE)
+            .spawn_scoped(scope, work)?;
+        Ok(thread
+            .join()
+            .unwrap_or_else(|panic| panic::resume_unwind(panic)))
+    })
 }
 
 /// What an answer tells; nothing where nothing is wrong.

@@ -1,6 +1,6 @@
 //! A delivery in hand: the seven files of a directory, read into memory.
 
-use canopyrail::{names, Value, Verdict, FILES};
+use canopyrail::{names, Grid, Value, Verdict, FILES};
 use std::io::Read;
 use std::path::Path;
 
@@ -37,6 +37,10 @@ impl Delivery {
 
     pub fn judge(&self) -> Result<Verdict, Trouble> {
         canopyrail::try_judge(self.all()).map_err(Trouble::NoThread)
+    }
+
+    pub fn grid(&self) -> Result<Grid, Trouble> {
+        canopyrail::try_grid(self.all()).map_err(Trouble::NoThread)
     }
 
     fn all(&self) -> [&[u8]; FILES] {

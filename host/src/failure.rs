@@ -1,6 +1,6 @@
 //! Why the command could not do its work.
 
-use canopyrail::names;
+use canopyrail::{names, Refusal};
 use std::error::Error;
 use std::ffi::{OsStr, OsString};
 use std::fmt;
@@ -18,6 +18,8 @@ pub enum Failure {
     Usage(Misuse),
     /// A delivery could not be judged.
     Judging(Trouble),
+    /// A folder's grid could not be added to those of the folders before it.
+    Adding(PathBuf, Refusal),
     /// A record could not be shown.
     Showing(Trouble),
     /// A page could not be written.
@@ -29,6 +31,10 @@ impl fmt::Display for Failure {
         match self {
             Failure::Usage(misuse) => write!(out, "{misuse}"),
             Failure::Judging(trouble) => write!(out, "could not judge: {trouble}"),
+            Failure::Adding(path, refusal) => {
+                let path = path_words(path);
+                write!(out, "could not add {path} to those before it: {refusal}")
+            }
             Failure::Showing(trouble) => write!(out, "could not show: {trouble}"),
             Failure::Writing(unwritten) => write!(out, "could not write: {unwritten}"),
         }

@@ -4,27 +4,29 @@
 pub const USAGE: &str = "\
 usage: canopyrail judge [--strict] DIR
        canopyrail explain [--strict] DIR
+       canopyrail grid [--strict] [--words] DIR...
        canopyrail show [--as NAME] FILE RECORD
-       canopyrail help [judge | explain | show]
+       canopyrail help [judge | explain | grid | show]
 ";
 
 pub const GENERAL: &str = "\
 canopyrail: checks MIGRA v1 map deliveries (chain-node profile, seven files)
 
 usage:
-  canopyrail judge [--strict] DIR           judge a delivery and print one line
-  canopyrail explain [--strict] DIR         the same line, then what is wrong in plain words
-  canopyrail show [--as NAME] FILE RECORD   one record's values, a field a line
-  canopyrail help [COMMAND]                 this page, or a command's own
-  canopyrail --version, -V                  the version
+  canopyrail judge [--strict] DIR              judge a delivery and print one line
+  canopyrail explain [--strict] DIR            the same line, then what is wrong in plain words
+  canopyrail grid [--strict] [--words] DIR...  how many faults there are, by file and kind
+  canopyrail show [--as NAME] FILE RECORD      one record's values, a field a line
+  canopyrail help [COMMAND]                    this page, or a command's own
+  canopyrail --version, -V                     the version
 
 DIR has the delivery's files CATALOGO, OB_PUN, OB_TEX, OB_LIN, TRAMO, VERTICE and NODO, in capitals.
 A file that is absent counts as an empty one; where that looks like a mistake, a warning goes to
 standard error.
 
 exit status:
-  0  accepted (show: the record is lawful)
-  1  refused (show: the record is not lawful)
+  0  accepted (grid: all of them; show: the record is lawful)
+  1  refused (grid: at least one; show: the record is not lawful)
   2  could not judge (show: could not read): there is only a message on standard error
 
 example:
@@ -38,7 +40,7 @@ example:
   Wrong   The line ends elsewhere than its end node.
   ...
 
-`canopyrail help judge` says how to read the line.
+`canopyrail help judge` says how to read the line, `canopyrail help grid` how to read the counts.
 ";
 
 pub const JUDGE: &str = "\
@@ -57,7 +59,7 @@ Judges the delivery in DIR and prints one line:
                      40-41 something named that is not there, 50-57 lines and nodes
 
 The first fault in a fixed order is told; there may be more behind it. `canopyrail explain DIR` says
-it in words.
+it in words, `canopyrail grid DIR` counts those of its kind.
 
 DIR has the seven files under these names, in capitals. An absent file counts as an empty one; one
 that is there and can't be read whole, or is a link to nothing, a folder or a pipe, means that the
@@ -102,6 +104,41 @@ example:
   canopyrail explain north-ridge | less
 ";
 
+pub const GRID: &str = "\
+usage: canopyrail grid [--strict] [--words] DIR...
+
+Counts the faults of the delivery in DIR, or of those in several folders together, and prints seven
+rows of five counts, each of ten digits. The rows are the files CATALOGO, OB_PUN, OB_TEX, OB_LIN,
+TRAMO, VERTICE and NODO, the columns the kinds of fault by the tens of their reasons:
+
+  0000000000 0000000000 0000000000 0000000002 0000000000
+  |          |          |          |          +--- 50-59 lines and nodes
+  |          |          |          +-------------- 40-41 references: what is named is not there
+  |          |          +------------------------- 30 keys: one that is used twice
+  |          +------------------------------------ 20-25 fields: a record's bytes
+  +----------------------------------------------- 10-11 shape: the file as a whole
+
+Of one delivery only the first column that has any fault is counted, since the rules of the others
+are not read then: there may be more in those behind it. Every fault of that column is counted once,
+so a field that breaks two rules has two. All zeros: accepted. Counts of several folders are added
+up, and a sum of more than ten digits is told as reason 67 with the folder at which it came up; no
+rows are printed then.
+
+With --words the rows have the files' names, the columns the kinds' names, and both their totals.
+
+Warnings and --strict are those of `canopyrail judge`. Where one of the folders can't be judged,
+nothing is counted.
+
+exit status:
+  0  accepted, all of them
+  1  at least one refused
+  2  could not judge, or not add up: there is only a message on standard error
+
+examples:
+  canopyrail grid north-ridge
+  canopyrail grid --words deliveries/*
+";
+
 pub const SHOW: &str = "\
 usage: canopyrail show [--as NAME] FILE RECORD
 
@@ -127,6 +164,7 @@ pub fn page(command: &str) -> Option<&'static str> {
     match command {
         "judge" => Some(JUDGE),
         "explain" => Some(EXPLAIN),
+        "grid" => Some(GRID),
         "show" => Some(SHOW),
         "help" => Some(GENERAL),
         _ => None,

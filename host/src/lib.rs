@@ -6,7 +6,8 @@
 //! [`Reason`] has every reason by name and number, [`words`] in plain words, [`names`] MIGRA's own
 //! names.
 //!
-//! Nothing is kept between calls, so several threads may call at once.
+//! [`judge`] tells a delivery's first break, [`grid()`] counts them all. Nothing is kept between
+//! calls, so several threads may call at once.
 //!
 //! ```
 //! # fn main() -> Result<(), canopyrail::Break> {
@@ -29,18 +30,22 @@
 
 #[allow(unsafe_code)]
 mod calls;
+mod grid;
 pub mod names;
 mod reason;
 mod record;
 mod verdict;
 pub mod words;
 
+pub use grid::{grid, grid_here, rows, try_grid, Grid};
 pub use reason::Reason;
 pub use record::{read, write, Refusal, Value};
 pub use verdict::{judge, judge_here, line, try_judge, Break, Verdict};
 
 /// How many files a delivery has.
 pub const FILES: usize = calls::FILES;
+/// How many groups of reasons there are, by their tens: 10 to 11, 20 to 25, 30, 40 to 41, 50 to 59.
+pub const GROUPS: usize = calls::GROUPS;
 /// At most so many records a file; a longer file is refused with reason 10.
 pub const RECORDS: usize = 16_384;
 /// The most fields a record has.
@@ -49,7 +54,7 @@ pub const FIELDS: usize = calls::FIELDS;
 pub const TEXT: usize = calls::TEXT;
 /// The bytes of the longest record.
 pub const LONGEST: usize = 149;
-/// A judging takes at most so many bytes of stack, whatever the files' sizes.
+/// A judging, and a counting of breaks, takes at most so many bytes of stack, whatever the files' sizes.
 pub const STACK: usize = calls::STACK;
 
 /// The version of the library that is linked: major * 10000 + minor * 100 + patch.

@@ -1,4 +1,4 @@
-//! The command `canopyrail`: judges a delivery, explains the verdict, shows a record.
+//! The command `canopyrail`: judges a delivery, explains the verdict, counts breaks, shows a record.
 #![deny(unsafe_code)]
 
 mod arguments;
@@ -12,6 +12,7 @@ mod layout;
 mod outlet;
 mod picture;
 mod show;
+mod tally;
 
 use canopyrail::Verdict;
 use std::env;
@@ -23,6 +24,7 @@ use std::process::ExitCode;
 use arguments::{given, Takes};
 use delivery::Delivery;
 use failure::{path_words, Failure, Misuse, Trouble, Unwritten};
+use tally::Tally;
 
 const FINE: u8 = 0;
 const REFUSED: u8 = 1;
@@ -56,6 +58,7 @@ fn run(words: &[OsString]) -> Ending {
     match command.to_str() {
         Some("judge") => judge(rest, help::JUDGE, |_, verdict| canopyrail::line(verdict)),
         Some("explain") => judge(rest, help::EXPLAIN, explain::page),
+        Some("grid") => grid(rest),
         Some("show") => show(rest),
         Some("help") => help(rest),
         Some("--help" | "-h") => Ok(fine(help::GENERAL)),
@@ -77,6 +80,31 @@ fn judge(rest: &[OsString], help: &str, words: fn(&Delivery, &Verdict) -> String
         page: words(&delivery, &verdict),
         warnings: warnings(directory, &delivery),
         status: status(&verdict),
+    })
+}
+
+/// Counts the breaks of folders, all of them together.
+fn grid(rest: &[OsString]) -> Ending {
+    let given = given(rest, Takes::StrictAndWords)?;
+    if given.help {
+        return Ok(fine(help::GRID));
+    }
+    let mut tally = Tally::default();
+    let mut warned = Vec::new();
+    for directory in given.directories()? {
+        let delivery = opened(directory, given.strict).map_err(Failure::Judging)?;
+        let grid = delivery.grid().map_err(Failure::Judging)?;
+        tally.add(directory, &grid)?;
+        warned.extend(warnings(directory, &delivery));
+    }
+    Ok(Outcome {
+        page: if given.in_words {
+            tally.page()
+        } else {
+            canopyrail::rows(&tally.grid)
+        },
+        warnings: warned,
+        status: if tally.refused == 0 { FINE } else { REFUSED },
     })
 }
 

@@ -1,7 +1,8 @@
 //! The names of MIGRA v1 (section 5.5) for the seven files and their fields, and the form that a
-//! field has.
+//! field has; and names for the groups of reasons.
 //!
-//! Files are numbered 1 to 7 and fields from 1, as everywhere in this library.
+//! Files are numbered 1 to 7, groups 1 to 5 by their tens, and fields from 1, as everywhere in this
+//! library.
 
 use crate::calls;
 
@@ -9,6 +10,11 @@ use crate::calls;
 pub const FILES: [&str; calls::FILES] = [
     "CATALOGO", "OB_PUN", "OB_TEX", "OB_LIN", "TRAMO", "VERTICE", "NODO",
 ];
+
+/// The groups of reasons by name; the reasons of group n are n times ten and up, and its name is
+/// `GROUPS[n - 1]`.
+pub const GROUPS: [&str; calls::GROUPS] =
+    ["shape", "fields", "keys", "references", "lines and nodes"];
 
 /// What a field holds, under the header's number.
 #[derive(Clone, Copy, Debug, PartialEq, Eq)]

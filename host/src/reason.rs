@@ -64,11 +64,13 @@ pub enum Reason {
     Unfit = 65,
     /// There is no such record.
     NoSuchRecord = 66,
+    /// A cell of two grids' sum is over 9,999,999,999.
+    SumTooLarge = 67,
 }
 
 impl Reason {
     /// Every reason, by number.
-    pub const ALL: [Reason; 27] = [
+    pub const ALL: [Reason; 28] = [
         Reason::LongFile,
         Reason::RaggedFile,
         Reason::BadEnd,
@@ -96,9 +98,10 @@ impl Reason {
         Reason::NotGiven,
         Reason::Unfit,
         Reason::NoSuchRecord,
+        Reason::SumTooLarge,
     ];
 
-    /// The reason's number, 10 to 66.
+    /// The reason's number, 10 to 67.
     #[must_use]
     pub const fn number(self) -> u8 {
         self as u8

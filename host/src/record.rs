@@ -6,13 +6,13 @@ use std::fmt;
 use crate::names::{self, Form};
 use crate::{calls, fields, length, Reason, FIELDS, TEXT};
 
-/// Why a call on one record refused: a reason (60 to 66, of reading also 20 to 25) and the field, 0
-/// for the record as a whole.
+/// Why a call refused: a reason (60 to 67, of reading also 20 to 25) and the field, 0 for the record
+/// as a whole.
 #[derive(Clone, Copy, Debug, PartialEq, Eq, Hash)]
 pub struct Refusal {
     /// The reason.
     pub reason: Reason,
-    /// The field, from 1; 0 is the record as a whole.
+    /// The field, from 1; 0 is the record as a whole, and what a call on grids tells.
     pub field: usize,
 }
 
@@ -77,7 +77,8 @@ pub fn write(file: usize, values: &[Value], room: &mut [u8]) -> Result<usize, Re
     Ok(length(file))
 }
 
-fn refused(answer: u64) -> Result<(), Refusal> {
+/// What an answer of a call on a record or on grids comes to.
+pub(crate) fn refused(answer: u64) -> Result<(), Refusal> {
     match calls::told(answer) {
         None => Ok(()),
         Some(told) => Err(Refusal {

@@ -11,7 +11,7 @@ pub struct Words {
     pub rule: &'static str,
     /// What to look at.
     pub look: &'static str,
-    /// What to ask the contractor; of 60 to 66, what to mend in the calling program.
+    /// What to ask the contractor; of 60 to 67, what to mend in the calling program.
     pub ask: &'static str,
 }
 
@@ -203,7 +203,7 @@ pub const fn of(reason: Reason) -> Words {
         Reason::ShortRoom => Words {
             wrong: "The room lent is too short.",
             rule: "Writing takes as many bytes as the record has; reading takes the whole arrays \
-                   of values.",
+                   of values; a grid takes all its cells.",
             look: "The lengths passed.",
             ask: "Lend more room.",
         },
@@ -241,6 +241,12 @@ pub const fn of(reason: Reason) -> Words {
             rule: "Records are counted from 1 to the whole records in hand.",
             look: "The record's number and the count of whole records.",
             ask: "Ask for a record that is there.",
+        },
+        Reason::SumTooLarge => Words {
+            wrong: "A cell of the two grids' sum is over 9,999,999,999.",
+            rule: "A cell of a grid has at most ten digits, also where grids are added up.",
+            look: "The cells of both grids, neither of which was changed.",
+            ask: "Keep the two sums apart.",
         },
     }
 }

@@ -1,6 +1,6 @@
 //! include/canopyrail.h, the archive and this crate say the same: the version and every number that the header defines.
 
-use canopyrail::names::{form, Form, FILES};
+use canopyrail::names::{form, Form, FILES, GROUPS};
 use canopyrail::Reason;
 
 const HEADER: &str = include_str!("../../include/canopyrail.h");
@@ -56,6 +56,11 @@ fn the_same_numbers() {
     }
     // that the archive's is the same shows where a file of one byte more is refused (compare.rs)
     assert_eq!(number("CANOPYRAIL_RECORDS"), canopyrail::RECORDS);
+    // and where a grid of one cell fewer is (examples/calls.c)
+    assert_eq!(number("CANOPYRAIL_GROUPS"), canopyrail::GROUPS);
+    assert_eq!(GROUPS.len(), canopyrail::GROUPS);
+    let cells = "#define CANOPYRAIL_CELLS (CANOPYRAIL_FILES * CANOPYRAIL_GROUPS)\n";
+    assert!(HEADER.contains(cells));
 }
 
 #[test]

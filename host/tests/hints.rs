@@ -18,6 +18,7 @@ fn lines(files: &[Vec<u8>; 7]) -> (Verdict, String, String) {
         &files[0], &files[1], &files[2], &files[3], &files[4], &files[5], &files[6],
     ];
     let ours = canopyrail::judge(lent);
+    assert_eq!(*canopyrail::grid(lent).rows(), independent::grid(lent));
     (
         ours,
         canopyrail::line(&ours),

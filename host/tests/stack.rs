@@ -33,6 +33,23 @@ fn a_judging_on_little_stack() {
 }
 
 #[test]
+fn a_counting_on_little_stack() {
+    let files = full(&mut Random::new(1), 16_384);
+    assert!(on_little_stack(|| canopyrail::grid(lent(&files))).is_zero());
+    for seed in 0..200 {
+        let (files, _) = damaged(&mut Random::new(seed));
+        let there = independent::grid(lent(&files));
+        let grid = on_little_stack(|| {
+            let mut sum = canopyrail::Grid::default();
+            sum.add(&canopyrail::try_grid(lent(&files)).unwrap())
+                .unwrap();
+            sum
+        });
+        assert_eq!(*grid.rows(), there, "seed {seed}");
+    }
+}
+
+#[test]
 fn many_judgings_at_once_on_little_stack() {
     let files = full(&mut Random::new(2), 256);
     thread::scope(|scope| {
@@ -65,12 +82,22 @@ fn records_on_little_stack() {
 /// On a thread that has the stack, the same without a thread more.
 #[test]
 fn a_judging_on_a_stack_that_does() {
-    let files = full(&mut Random::new(4), 64);
+    let (files, _) = damaged(&mut Random::new(4));
     let builder = thread::Builder::new().stack_size(2 * canopyrail::STACK);
-    let verdict = thread::scope(|scope| {
-        // SAFETY: the thread has twice the stack that a judging takes.
-        let work = || unsafe { canopyrail::judge_here(lent(&files)) };
+    let found = thread::scope(|scope| {
+        // SAFETY: the thread has twice the stack that a judging takes, and a counting.
+        let work = || unsafe {
+            (
+                canopyrail::judge_here(lent(&files)),
+                canopyrail::grid_here(lent(&files)),
+            )
+        };
         builder.spawn_scoped(scope, work).unwrap().join().unwrap()
     });
-    assert_eq!(verdict, canopyrail::judge(lent(&files)));
+    let beside = (
+        canopyrail::judge(lent(&files)),
+        canopyrail::grid(lent(&files)),
+    );
+    assert_eq!(found, beside);
+    assert!(!beside.1.is_zero());
 }

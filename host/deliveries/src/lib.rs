@@ -23,7 +23,8 @@ pub use damage::{damage, damaged, Aim, Layer, Outcome, AIMS};
 pub use full::{full, MOST_RECORDS};
 pub use lawful::{lawful, Size};
 pub use layout::{
-    fields, Field, Form, CATALOGO, NAMES, NODO, OB_LIN, OB_PUN, OB_TEX, RECORD, TRAMO, VERTICE,
+    field_start, fields, Field, Form, CATALOGO, NAMES, NODO, OB_LIN, OB_PUN, OB_TEX, RECORD, TRAMO,
+    VERTICE,
 };
 pub use model::{
     write, Catalogo, Files, Model, Nodo, ObLin, ObPun, ObTex, Posicion, Tramo, Vertice,

@@ -1,8 +1,7 @@
 //! Every rule from 30 on broken as often as it can be, and hostile keys and places, beside the lawful delivery that they are made of.
 
 use crate::hostile::HOSTILE;
-use crate::keys::{Case, MISTYPED, REPEATED, UNKNOWN};
-use crate::topology::ASTRAY;
+use crate::throughout::{Case, ASTRAY, MISTYPED, REPEATED, UNKNOWN};
 use crate::{both, judge, lent, once, places};
 use deliveries::{lawful, write, Files, Random, Size, MOST_RECORDS};
 

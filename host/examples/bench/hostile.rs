@@ -2,7 +2,7 @@
 //! there is its remainder by one prime, and its first step its quotient's remainder by another, so that keys may share a place, or be
 //! on one way of places that few of them can have.
 
-use crate::keys::Case;
+use crate::throughout::Case;
 use deliveries::Model;
 use std::collections::BTreeMap;
 

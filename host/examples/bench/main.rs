@@ -1,15 +1,18 @@
 //! How long `judge` takes beside the independent checker, on the same deliveries in the same run, both built for release.
 //!
 //! `cargo run --release --example bench` prints the tables of docs/BENCHMARKS.md, `bench -- NAME...` those named: lawful, damaged,
-//! keys, broken, places, records, thread. Times are the least of several turns, taken by turns so that both meet the same state of the
+//! keys, broken, grid, places, records, thread. `grid` is for the breaks counted: of the lawful delivery of 16,384 records a file, and
+//! for each rule of the one made of it in which every record breaks that, beside the verdict on the lawful one, of which a count is to
+//! take at most four times the time. Times are the least of several turns, taken by turns so that both meet the same state of the
 //! machine; a ratio below 1 says that the library is faster.
 
 mod broken;
+mod grid;
 mod hostile;
-mod keys;
 #[path = "../../tests/places/mod.rs"]
 mod places;
-mod topology;
+#[path = "../../tests/throughout/mod.rs"]
+mod throughout;
 
 use canopyrail::Verdict;
 use deliveries::{damage, full, lawful, write, Files, Random, Size, AIMS};
@@ -230,11 +233,12 @@ fn one_record() {
 
 type Table = (&'static str, fn());
 
-const TABLES: [Table; 7] = [
+const TABLES: [Table; 8] = [
     ("lawful", lawful_deliveries),
     ("damaged", || damaged_deliveries(4_096)),
     ("keys", || repeated_keys(16_384)),
     ("broken", broken::broken_deliveries),
+    ("grid", grid::grids),
     ("places", || shared_places(16_384)),
     ("records", one_record),
     ("thread", thread),

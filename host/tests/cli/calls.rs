@@ -54,7 +54,7 @@ fn the_tables_agree() {
 /// Document 01's reasons.
 fn numbers() -> Vec<u8> {
     let reasons = (10..=11).chain(20..=25).chain([30, 40, 41]);
-    reasons.chain(50..=57).chain([59]).chain(60..=66).collect()
+    reasons.chain(50..=57).chain([59]).chain(60..=67).collect()
 }
 
 #[test]

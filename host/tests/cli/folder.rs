@@ -7,13 +7,13 @@ use std::path::Path;
 use std::process::Command;
 
 use crate::build::{s, Files, NAMES, NODO, OB_TEX};
-use crate::run::{explain, judge, run, run_in_time, show, Room, Run};
+use crate::run::{explain, grid, judge, run, run_in_time, show, Room, Run};
 
 #[test]
 fn what_cannot_be_judged() {
     let room = Room::holding(&s());
     fs::create_dir(room.file(OB_TEX)).unwrap();
-    for page in [judge(&room.path), explain(&room.path)] {
+    for page in [judge(&room.path), explain(&room.path), grid(&room.path)] {
         assert_eq!((page.status, page.out.as_str()), (2, ""));
         assert!(
             page.err.starts_with("canopyrail: could not judge: "),
@@ -46,6 +46,7 @@ fn a_pipe_is_no_file() {
     for words in [
         &[OsStr::new("judge"), folder][..],
         &[OsStr::new("explain"), folder],
+        &[OsStr::new("grid"), folder],
         &[OsStr::new("show"), file.as_os_str(), OsStr::new("1")],
     ] {
         let page = run_in_time(words);
@@ -112,12 +113,15 @@ fn check_doubt(room: &Room, line: &str, doubts: &[&str]) {
             format!("canopyrail: warning: {path}: {doubt}\n")
         })
         .collect();
+    let status = i32::from(line.starts_with("NO"));
     for page in [judge(&room.path), explain(&room.path)] {
         assert_eq!(page.err, warnings.concat());
         assert_eq!(page.out.lines().next(), Some(line));
-        assert_eq!(page.status, i32::from(line.starts_with("NO")));
+        assert_eq!(page.status, status);
     }
-    for command in ["judge", "explain"] {
+    let counted = grid(&room.path);
+    assert_eq!((counted.err, counted.status), (warnings.concat(), status));
+    for command in ["judge", "explain", "grid"] {
         let page = strict(command, &room.path);
         assert_eq!((page.status, page.out.as_str()), (2, ""));
         assert!(page.err.starts_with("canopyrail: could not judge: "));

@@ -4,6 +4,7 @@
 mod build;
 mod calls;
 mod cases;
+mod counting;
 mod folder;
 mod pages;
 mod run;

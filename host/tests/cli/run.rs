@@ -104,6 +104,10 @@ pub fn explain(path: &Path) -> Run {
     run(&[OsStr::new("explain"), path.as_os_str()])
 }
 
+pub fn grid(path: &Path) -> Run {
+    run(&[OsStr::new("grid"), path.as_os_str()])
+}
+
 pub fn show(path: &Path, record: &str) -> Run {
     run(&[OsStr::new("show"), path.as_os_str(), OsStr::new(record)])
 }

@@ -18,6 +18,7 @@ fn help_and_version() {
     for words in [
         "judge [--strict] DIR",
         "explain [--strict] DIR",
+        "grid [--strict] [--words] DIR...",
         "show [--as NAME] FILE RECORD",
         "exit status",
         "example",
@@ -27,7 +28,7 @@ fn help_and_version() {
     for words in [&["-h"][..], &["help"], &["help", "help"]] {
         assert_eq!(run(words).out, general.out);
     }
-    for command in ["judge", "explain", "show"] {
+    for command in ["judge", "explain", "grid", "show"] {
         let page = run(&["help", command]);
         assert_eq!(page.status, 0);
         assert!(page
@@ -49,7 +50,7 @@ fn help_and_version() {
 
 #[test]
 fn unknown_words() {
-    let wrong: [&[&str]; 15] = [
+    let wrong: [&[&str]; 19] = [
         &[],
         &["check"],
         &["judge"],
@@ -65,6 +66,10 @@ fn unknown_words() {
         &["show", "", "1"],
         &["show", "--strict", "NODO", "1"],
         &["judge", "--as=NODO", "a"],
+        &["judge", "--words", "a"],
+        &["grid"],
+        &["grid", "a", ""],
+        &["grid", "--as=NODO", "a"],
     ];
     for words in wrong {
         let page = run(words);
@@ -114,7 +119,7 @@ fn paths_that_are_no_text() {
 #[test]
 fn a_reader_that_went_away() {
     let room = Room::holding(&s().set(NODO, 2, 4, "000000141"));
-    for command_name in ["judge", "explain"] {
+    for command_name in ["judge", "explain", "grid"] {
         // The other end is closed before the command writes, as by a reader that has left.
         let (output, reader) = UnixStream::pair().unwrap();
         drop(reader);
@@ -158,7 +163,12 @@ fn an_output_that_is_full() {
 
 #[test]
 fn an_empty_path_is_told_as_such() {
-    for words in [&["judge", ""][..], &["explain", ""], &["show", "", "1"]] {
+    for words in [
+        &["judge", ""][..],
+        &["explain", ""],
+        &["grid", ""],
+        &["show", "", "1"],
+    ] {
         let page = run(words);
         assert!(page.err.contains("the path given is empty"), "{}", page.err);
     }

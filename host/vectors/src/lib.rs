@@ -1,11 +1,11 @@
 //! What the proved programs are tested with: deliveries stated by hand and
-//! deliveries that are drawn, and the lines that they should give; and what the
-//! calls on one record should answer.
+//! deliveries that are drawn, and the lines and grids that they should give;
+//! and what the calls on one record should answer.
 //!
 //! `cargo run -p vectors --manifest-path host/Cargo.toml` writes them; a test
 //! holds what is stored to what is made here. Nothing of the proved library is
-//! linked: the expected lines are the independent checker's, and where a
-//! delivery is stated by hand, so is its line.
+//! linked: the expected lines and grids are the independent checker's, and
+//! where a delivery is stated by hand, so is its line.
 
 mod calls;
 mod draft;
@@ -26,8 +26,18 @@ pub const ROOM: usize = 2_097_152;
 
 /// The independent checker's line, with its line feed.
 pub fn line(files: &Files) -> String {
-    let lent = std::array::from_fn(|file| files[file].as_slice());
-    independent::line(&independent::judge(lent))
+    independent::line(&independent::judge(lent(files)))
+}
+
+/// The independent checker's grid, a row a file, each with its line feed.
+pub fn grid(files: &Files) -> String {
+    let row = |counts: [u64; 5]| counts.map(|count| format!("{count:010}")).join(" ");
+    let rows = independent::grid(lent(files)).map(row);
+    format!("{}\n", rows.join("\n"))
+}
+
+fn lent(files: &Files) -> [&[u8]; 7] {
+    std::array::from_fn(|file| files[file].as_slice())
 }
 
 /// Everything that crates/deliveries judges, in its order.
@@ -58,13 +68,14 @@ fn packed(files: &Files) -> Vec<u8> {
     bytes
 }
 
-/// A sample's folder: the files that have bytes, and its line.
+/// A sample's folder: the files that have bytes, its line and its grid.
 pub fn folder(sample: &Stated) -> Vec<Stored> {
     let folder = Path::new("samples").join(sample.name);
-    let mut stored = vec![(
-        folder.join("line"),
-        format!("{}\n", sample.line).into_bytes(),
-    )];
+    let line = format!("{}\n", sample.line);
+    let mut stored = vec![
+        (folder.join("line"), line.into_bytes()),
+        (folder.join("grid"), grid(&sample.files).into_bytes()),
+    ];
     for (name, bytes) in NAMES.iter().zip(&sample.files) {
         if !bytes.is_empty() {
             stored.push((folder.join(name), bytes.clone()));

@@ -64,6 +64,38 @@ fn the_independent_checker_says_what_was_stated_by_hand() {
     }
 }
 
+/// Counts of breaks, each with its file and group from 1.
+type Counts = [(usize, usize, u64)];
+
+/// Zeros but for these counts.
+fn rows(counts: &Counts) -> String {
+    let mut rows = [["0000000000"; 5]; 7].map(|row| row.map(String::from));
+    for (file, group, count) in counts {
+        rows[file - 1][group - 1] = format!("{count:010}");
+    }
+    rows.map(|row| row.join(" ") + "\n").concat()
+}
+
+/// Of samples with several breaks the grids too are stated by hand.
+#[test]
+fn the_independent_checker_counts_what_was_stated_by_hand() {
+    let of_name: BTreeMap<_, _> = stated().into_iter().map(|s| (s.name, s.files)).collect();
+    let grids: [(&str, &Counts); 8] = [
+        ("rich", &[]),
+        ("r11-lowest-of-two-files", &[(2, 1, 1), (4, 1, 1)]),
+        ("r20-lowest-file-first", &[(2, 2, 1), (3, 2, 1)]),
+        ("r21-all-bars-are-commas", &[(7, 2, 7)]),
+        ("r24-centroid-one-sign-alone", &[(4, 2, 3)]),
+        ("case-04", &[(6, 5, 2)]),
+        ("case-08", &[(7, 3, 1)]),
+        // 54 and 56 at one node
+        ("r54-before-56-at-one-node", &[(7, 5, 2)]),
+    ];
+    for (name, counts) in grids {
+        assert_eq!(vectors::grid(&of_name[name]), rows(counts), "{name}");
+    }
+}
+
 #[test]
 fn records_are_written_as_the_documents_print_them() {
     let files = |name| stated().into_iter().find(|s| s.name == name).unwrap().files;

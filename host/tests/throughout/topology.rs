@@ -1,7 +1,7 @@
 //! Deliveries in which every record of a file breaks one rule of 50 to 57, or as many records as the rule allows, and one with a single
 //! twin. Each is made of a lawful one, and nothing else is broken.
 
-use crate::keys::Case;
+use super::Case;
 use deliveries::{Model, Nodo, Posicion, Random};
 use std::collections::{BTreeMap, BTreeSet};
 

@@ -1,11 +1,9 @@
 //! Deliveries in which every record of a file breaks one rule of 30 to 41, or as many records as the rule allows. Each is made of a
 //! lawful one, and nothing else is broken in a ten up to the rule's own.
 
+use super::Case;
 use deliveries::{Catalogo, Model, Nodo};
 use std::collections::BTreeSet;
-
-/// What is broken, the line that is due, and how a lawful delivery of 16,384 records a file comes to it.
-pub type Case = (&'static str, &'static str, fn(&mut Model));
 
 pub const REPEATED: [Case; 8] = [
     ("30, one key in CATALOGO", "NO 30 1 00002 01", |model| {

@@ -1,0 +1,55 @@
+//! Deliveries that break a rule in every record, or in as many as the rule allows, each made of a lawful one.
+
+mod bytes;
+mod keys;
+mod topology;
+
+pub use keys::{MISTYPED, REPEATED, UNKNOWN};
+pub use topology::ASTRAY;
+
+use bytes::ILL_FORMED;
+use deliveries::{write, Files, Model};
+
+/// What is broken, the line that is due, and how a lawful delivery of 16,384 records a file comes to it.
+pub type Case<T = Model> = (&'static str, &'static str, fn(&mut T));
+
+/// Several rules at once, as far as one allows another.
+const AT_ONCE: [Case; 3] = [
+    ("30, one key in each file", "NO 30 1 00002 01", |model| {
+        in_turn(model, &REPEATED, &["30"]);
+    }),
+    ("40, all fields of these", "NO 40 2 00001 02", |model| {
+        in_turn(model, &UNKNOWN, &["40"]);
+    }),
+    ("50, 53, 55 and 57 as these", "NO 55 2 00001 03", |model| {
+        in_turn(model, &ASTRAY, &["50", "53", "55", "57"]);
+    }),
+];
+
+/// Makes the changes of those cases whose reason is one of these.
+fn in_turn(model: &mut Model, cases: &[Case], reasons: &[&str]) {
+    let wanted = |(name, ..): &&Case| reasons.contains(&&name[..2]);
+    cases
+        .iter()
+        .filter(wanted)
+        .for_each(|(_, _, change)| change(model));
+}
+
+/// What is broken, the line that is due, and the files.
+pub type Broken = (&'static str, &'static str, Files);
+
+/// Every rule's deliveries, one at a time.
+pub fn all(lawful: &Model) -> impl Iterator<Item = Broken> + '_ {
+    let groups: [&[Case]; 5] = [&REPEATED, &UNKNOWN, &MISTYPED, &ASTRAY, &AT_ONCE];
+    let values = groups.concat().into_iter().map(move |(name, due, change)| {
+        let mut model = lawful.clone();
+        change(&mut model);
+        (name, due, write(&model))
+    });
+    let bytes = ILL_FORMED.iter().map(move |(name, due, change)| {
+        let mut files = write(lawful);
+        change(&mut files);
+        (*name, *due, files)
+    });
+    bytes.chain(values)
+}
