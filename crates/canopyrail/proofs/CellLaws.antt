@@ -23,6 +23,7 @@ use Rattle.judge.proofs.Cases.{no-files}
 use Rattle.grids.specs.Grid.{Grid, gridOf}
 use Rattle.grids.specs.Sum.{cellAt, plus, addFinding, addOf}
 use Rattle.grids.proofs.FillLaws.{Shaped, grid-same, shaped-row, cell-row}
+use Rattle.grids.proofs.GridLaws.{shaped-grid}
 use Rattle.grids.proofs.Meaning.{zero-exactly}
 use Rattle.grids.proofs.SumLaws.{fits-fine, added-is}
 use Rattle.canopyrail.specs.Answers.{refusalWord, findingWord}
@@ -45,6 +46,9 @@ put-held a rest s =
     ∙ List·getD-append (lentCells a) rest 0 (i * groups + g) (rw length-row c)
     ∙ row-at (λ c. cellAt a (c / groups) (c % groups)) cellCount 0 c
     ∙ rw (row-of, column) refl)
+
+pub grid-held : (files : Files) (rest : List ℕ) → gridIn (lentCells (gridOf files) ++ rest) ≡ gridOf files
+grid-held files rest = put-held (gridOf files) rest (shaped-grid files)
 
 -- THE GRID OF NO FILES is of zeros
 pub none-grid : {A : Type 0} (f : A → List ℕ) (l : List A) → length l ≡ 0 → replicate 7 (replicate 5 0) ≡ gridOf (filesOf (map f l))

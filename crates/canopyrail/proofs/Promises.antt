@@ -1,7 +1,8 @@
 -- WHAT THE PROJECT PROMISES, all of it: each promise stated in full in terms of specs/ alone, its proof a citation of where the work is
--- done. The code's contracts tie the code to the same definitions: `judge` gives verdictOf, `program_line` gives programLine, codec's
--- `read` and `write` do readOf and Writes, the library's `canopyrail_read` and `canopyrail_write` do Reads and WritesLent. Of lent
--- memory N, C, L and T are the numbers, coordinates, lengths and texts before a call, N', C', L' and T' after it. docs/PROMISES.md has
+-- done. The code's contracts tie the code to the same definitions: `judge` gives verdictOf, `program_line` gives programLine, `grid_of`
+-- gives gridOf, `add` and `add_finding` give addOf and addFinding, `program_rows` gives programRows, codec's `read` and `write` do readOf and
+-- Writes, the library's `canopyrail_read`, `canopyrail_write`, `canopyrail_grid` and `canopyrail_grid_add` do Reads, WritesLent, Counts and Adds. Of
+-- lent memory N, C, L and T are the numbers, coordinates, lengths and texts before a call, N', C', L' and T' after it. docs/PROMISES.md has
 -- the same in plain words.
 -- Assumes nothing.
 use Prim.Native.Nat.{ℕ, _+_, _-_, _/_, _%_, _<_, _≤_}
@@ -11,7 +12,8 @@ use mathlib.Core.Path.{_≡_, sym, ap, _∙_}
 use mathlib.Core.Logic.{_⊎_}
 use lib.Dec.{eqb}
 use lib.IntN.{ℤ}
-use lib.ListN.{length, take, drop, getD}
+use lib.ListN.{length, take, drop, getD, replicate}
+use Rattle.laws.specs.Count.{total}
 use Rattle.laws.specs.Nest.{before}
 use Rattle.laws.specs.Row.{pick}
 use Rattle.record.specs.declared.kind.Kind.{Kind}
@@ -20,7 +22,7 @@ use Rattle.record.specs.declared.reason.Reason.{Reason}
 use Rattle.record.specs.declared.reason.Reason.the-variants.{NoFile60, ShortRoom61, NoSuchRecord66}
 use Rattle.record.specs.declared.reason.Break.{Break}
 use Rattle.record.specs.declared.reason.Finding.the-variants.{Fine, Broken}
-use Rattle.record.specs.Table.{fieldsOf, lengthOf, widthAt, whichOf, onFile, fileCount, mostFields, limit}
+use Rattle.record.specs.Table.{fieldsOf, fileOf, lengthOf, widthAt, whichOf, onFile, fileCount, mostFields, limit}
 use Rattle.record.specs.Files.{Files, filesOf}
 use Rattle.record.specs.Cut.{countOf, recordOf}
 use Rattle.record.specs.Rules.{twenties}
@@ -37,7 +39,7 @@ use Rattle.judge.specs.declared.judge.Verdict.{Verdict}
 use Rattle.judge.specs.declared.line.Line.{Line}
 use Rattle.judge.specs.Verdict.{judged, verdictOf}
 use Rattle.judge.specs.Line.{big, programLine, lineIn}
-use Rattle.judge.specs.Broken.{holds, placeAt, Judges}
+use Rattle.judge.specs.Broken.{groups, holds, placeAt, Judges}
 use Rattle.judge.specs.Words.{SameButWords}
 use Rattle.judge.specs.Obeys.{Records, Obeys, madeOf, accepted, Shuffled}
 use Rattle.judge.specs.Cases.{outcome, table}
@@ -46,16 +48,25 @@ use Rattle.judge.proofs.FreeWords as words
 use Rattle.judge.proofs.Writer as writer
 use Rattle.judge.proofs.CutShort as short
 use Rattle.judge.proofs.Cases as cases
+use Rattle.grids.specs.declared.rows.Rows.{Rows}
+use Rattle.grids.specs.Grid.{Grid, lowest, cellOf, gridOf}
+use Rattle.grids.specs.Listed.{Breaks, BreaksIn}
+use Rattle.grids.specs.Sum.{mostInCell, cellAt, refused67, addFinding, addOf}
+use Rattle.grids.specs.Rows.{programRows, rowsIn}
+use Rattle.grids.proofs.Meaning as counted
+use Rattle.grids.proofs.SumLaws as sums
 use Rattle.canopyrail.specs.Answers.{otherOf, findingWord, reasonIn, fileIn, recordIn, fieldIn, otherIn}
 use Rattle.canopyrail.specs.Lent.{lentOffset, lentForm, roomy, Reads, lentValues, WritesLent}
+use Rattle.canopyrail.specs.Cells.{lentCells, gridIn, Counts, Adds}
 use Rattle.canopyrail.proofs.CallLaws as calls
+use Rattle.canopyrail.proofs.CellLaws as cells
 use Rattle.canopyrail.proofs.Fits as fits
 use Rattle.canopyrail.proofs.Others as others
 use Rattle.canopyrail.proofs.Border as border
 use Rattle.canopyrail.proofs.Back as back
 
 -- 1. TOTAL, AND LENT MEMORY. No call of the library asks for anything: each ends on every input with an outcome that its contract
--- allows, and 8 says that there is one. A refusal leaves every lent byte; success writes at the start of the room and touches no other.
+-- allows, and 9 says that there is one. A refusal leaves every lent byte; success writes at the start of the room and touches no other.
 pub refusal-leaves-room :
     (file : ℕ) (v : Values) (room after : List ℕ) (reason : Reason) (field : ℕ) → Writes file v room (Refused reason field) after → after ≡ room
 refusal-leaves-room = one.refusal-leaves-room
@@ -74,6 +85,12 @@ refused-reading-leaves-all file s n N C L T r N' C' L' T' w never = (w .numbersS
 
 pub refused-writing-leaves-room : (file : ℕ) (v : Values) (room : List ℕ) (r : ℕ) (after : List ℕ) → WritesLent file v room r after → (r ≡ 0 → ⊥) → after ≡ room
 refused-writing-leaves-room = border.room-left
+
+pub refused-grid-leaves-cells : (files : Files) (cells : List ℕ) (r : ℕ) (after : List ℕ) → Counts files cells r after → (r ≡ 0 → ⊥) → after ≡ cells
+refused-grid-leaves-cells files cells r after w = w .stays
+
+pub refused-adding-leaves-cells : (into from : List ℕ) (r : ℕ) (after : List ℕ) → Adds into from r after → (r ≡ 0 → ⊥) → after ≡ into
+refused-adding-leaves-cells into from r after w = w .stays
 
 -- 2. CODEC. Reading what was written gives the same values;
 pub reads-what-was-written :
@@ -253,7 +270,66 @@ program-reads-enough files cut h = short.cut-short files cut h _
 pub fourteen-cases : map (λ c. outcome (c .0)) table ≡ map (λ c. c .1) table
 fourteen-cases = cases.cases
 
--- 8. ONE OUTCOME A CALL: any two that its contract allows coincide. Of `judge`, `program_line`, and codec's `read` and `write`:
+-- 8. THE GRID (document 02, W-201). There is a list of reasons with their places, each in it once and in it exactly if it is broken, and the
+-- grid's total is its length. (What is broken is of the lowest ten that has a break.)
+pub every-break-once : (files : Files) → (list : List (List ℕ)) × Breaks files list × (length list ≡ total (map total (gridOf files)))
+every-break-once = counted.every-break-once
+
+-- So it is in each file: of its breaks there is such a list, and the cell of the lowest ten is its length; the cells of the others are 0.
+pub each-file-once :
+    (files : Files) (k : Kind) → (list : List (List ℕ)) × BreaksIn files k list × (length list ≡ cellOf files k (lowest files))
+each-file-once = counted.each-file-once
+
+pub other-tens-zero : (files : Files) (k : Kind) (t : ℕ) → (t ≡ lowest files → ⊥) → cellOf files k t ≡ 0
+other-tens-zero = counted.other-tens-zero
+
+-- It is zero exactly if the delivery is accepted;
+pub grid-zero-exactly :
+    (files : Files)
+    → (judged files ≡ Fine → gridOf files ≡ replicate fileCount (replicate groups 0))
+    × (gridOf files ≡ replicate fileCount (replicate groups 0) → judged files ≡ Fine)
+grid-zero-exactly = counted.zero-exactly
+
+-- else the break shown is of the grid's ten, and its file's cell isn't zero.
+pub shown-is-counted :
+    (files : Files) (b : Break) → judged files ≡ Broken b
+    → (k : Kind) × (fileOf k ≡ b .file) × (lowest files ≡ numberOf (b .reason) / 10) × (0 < cellOf files k (numberOf (b .reason) / 10))
+shown-is-counted = counted.shown-counted
+
+-- Every cell fits ten digits.
+pub cell-fits : (files : Files) (k : Kind) (t : ℕ) → cellOf files k t ≤ mostInCell
+cell-fits = counted.cell-fits
+
+-- Adding is refused with 67 exactly if a cell's sum is over 9,999,999,999, and then the grid is as it was;
+pub refused-67-exactly :
+    (a b : Grid)
+    → (addFinding a b ≡ refused67 → (i : ℕ) × (g : ℕ) × (i < fileCount) × (g < groups) × (mostInCell < cellAt a i g + cellAt b i g))
+    × ((i g : ℕ) → i < fileCount → g < groups → mostInCell < cellAt a i g + cellAt b i g → (addFinding a b ≡ refused67) × (addOf a b ≡ a))
+refused-67-exactly = sums.refused-exactly
+
+-- else each cell is the sum,
+pub added-exactly :
+    (a b : Grid) → addFinding a b ≡ Fine → (i g : ℕ) → i < fileCount → g < groups → cellAt (addOf a b) i g ≡ cellAt a i g + cellAt b i g
+added-exactly = sums.added-exactly
+
+-- in any order, and in any grouping, of which none is refused where one isn't.
+pub added-any-order : (a b : Grid) → addFinding a b ≡ Fine → (addFinding b a ≡ Fine) × (addOf a b ≡ addOf b a)
+added-any-order = sums.added-any-order
+
+pub added-any-grouping :
+    (a b c : Grid) → addFinding a b ≡ Fine → addFinding (addOf a b) c ≡ Fine
+    → (addFinding b c ≡ Fine) × (addFinding a (addOf b c) ≡ Fine) × (addOf (addOf a b) c ≡ addOf a (addOf b c))
+added-any-grouping = sums.added-any-grouping
+
+-- The grid that the library puts into lent cells is the one that it takes from them.
+pub put-is-held : (files : Files) (rest : List ℕ) → gridIn (lentCells (gridOf files) ++ rest) ≡ gridOf files
+put-is-held = cells.grid-held
+
+-- The program `grid` reads no more than one byte past the 8,192 that it takes of a file, and its rows are those of the whole files.
+pub rows-read-enough : (files cut : Files) → ((k : Kind) → cut k ≡ take (big + 1) (files k)) → programRows cut ≡ programRows files
+rows-read-enough files cut h = short.cut-short files cut h _
+
+-- 9. ONE OUTCOME A CALL: any two that its contract allows coincide. Of `judge`, `program_line`, and codec's `read` and `write`:
 pub one-verdict : (files : Files) (v w : Verdict) → v ≡ verdictOf files → w ≡ verdictOf files → v ≡ w
 one-verdict files v w e e' = e ∙ sym e'
 
@@ -268,12 +344,31 @@ pub one-writing :
     → (a ≡ a') × (after ≡ after')
 one-writing = one.one-writing
 
+-- Of the grid, of grids added, and of the rows:
+pub one-grid : (files : Files) (a b : Grid) → a ≡ gridOf files → b ≡ gridOf files → a ≡ b
+one-grid files a b e e' = e ∙ sym e'
+
+pub one-sum : (a b s s' : Grid) → s ≡ addOf a b → s' ≡ addOf a b → s ≡ s'
+one-sum a b s s' e e' = e ∙ sym e'
+
+pub one-rows : (files : Files) (r r' : Rows) → r ≡ rowsIn (programRows files) → r' ≡ rowsIn (programRows files) → r ≡ r'
+one-rows files r r' e e' = e ∙ sym e'
+
 -- Of the library's calls on a delivery,
 pub judge-once : (files : List (List ℕ)) (r r' : ℕ) → r ≡ findingWord (judged (filesOf files)) → r' ≡ findingWord (judged (filesOf files)) → r ≡ r'
 judge-once files r r' e e' = e ∙ sym e'
 
 pub count-once : (file : ℕ) (s : List ℕ) (r r' : ℕ) → r ≡ onFile (countOf s) (whichOf file) → r' ≡ onFile (countOf s) (whichOf file) → r ≡ r'
 count-once file s r r' e e' = e ∙ sym e'
+
+-- and on grids, what the lent cells hold included,
+pub grid-once :
+    (files : Files) (cells : List ℕ) (r r' : ℕ) (after after' : List ℕ) → Counts files cells r after → Counts files cells r' after' → (r ≡ r') × (after ≡ after')
+grid-once = cells.counts-once
+
+pub grid-add-once :
+    (into from : List ℕ) (r r' : ℕ) (after after' : List ℕ) → Adds into from r after → Adds into from r' after' → (r ≡ r') × (after ≡ after')
+grid-add-once = cells.adds-once
 
 -- on one record, what the lent memory holds included,
 pub read-once :

@@ -21,19 +21,19 @@ use Rattle.laws.proofs.SumLaws.{sum-none, sum-no, sum-one, sum-same, total-row}
 use Rattle.index.specs.declared.tally.Tally.{Tally}
 use Rattle.index.specs.Tally.{noTally}
 use Rattle.record.specs.declared.kind.Kind.{Kind}
-use Rattle.record.specs.declared.kind.Kind.the-variants.{Catalogo, ObPun, ObTex, ObLin, Tramo, Vertice, Nodo}
+use Rattle.record.specs.declared.kind.Kind.the-variants.{Catalogo}
 use Rattle.record.specs.declared.kind.Which.{Which}
 use Rattle.record.specs.declared.kind.Which.the-variants.{NoFile, File}
 use Rattle.record.specs.Table.{fileOf, fileCount, whichOf, onFile, kinds}
 use Rattle.record.specs.Files.{Files}
 use Rattle.record.specs.Rules.{breaks10}
 use Rattle.record.specs.machinery.Counts.{shapeMany, fieldsMany}
-use Rattle.record.proofs.TableLaws.{sane, which-file, NoneOf, numbers, default-at}
+use Rattle.record.proofs.TableLaws.{sane, kind-at, which-file, NoneOf, numbers, default-at}
 use Rattle.keys.specs.Rules.{orFirst}
 use Rattle.judge.specs.Broken.{groups, testsOf, breaksIn, atWhich, breaksOf}
 use Rattle.grids.specs.Grid.{lowest, cellOf, gridOf}
 use Rattle.grids.specs.machinery.Counted.{countedIn, countedOf, columnOf}
-use Rattle.grids.proofs.FillLaws.{list-same}
+use Rattle.grids.proofs.FillLaws.{list-same, Shaped, shaped-row}
 use Rattle.grids.proofs.TenLaws.{shape-many, fields-many, thirties-many, forties-many, fifties-many, tests-none}
 
 zero-is : (x : ℕ) → ltb 0 x ≡ false → x ≡ 0
@@ -42,16 +42,6 @@ zero-is x e = let l = ltb-false 0 x e in omega arith
 pub positive : (x : ℕ) → (x ≡ 0 → ⊥) → 0 < x
 positive zero h = absurd (h refl)
 positive (suc x) h = omega arith
-
--- a kind stands at its number
-kind-at : (k : Kind) → getD kinds (fileOf k - 1) Catalogo ≡ k
-kind-at Catalogo = refl
-kind-at ObPun = refl
-kind-at ObTex = refl
-kind-at ObLin = refl
-kind-at Tramo = refl
-kind-at Vertice = refl
-kind-at Nodo = refl
 
 -- an element of a list's images
 map-at : {A B : Type 0} (h : A → B) (xs : List A) (i : ℕ) (d : B) (d' : A) → i < length xs → getD (map h xs) i d ≡ h (getD xs i d')
@@ -188,6 +178,9 @@ module _ (files : Files) where
   pub grid-row : gridOf files ≡ row (λ i. row (λ g. cellOf files (getD kinds i Catalogo) (g + 1)) groups) fileCount
   unfolding gridOf row
   grid-row = refl
+
+  pub shaped-grid : Shaped (gridOf files)
+  shaped-grid = rw grid-row (shaped-row (λ i g. cellOf files (getD kinds i Catalogo) (g + 1)))
 
   counted-at : (t i : ℕ) → i < fileCount → getD (countedOf files t) i 0 ≡ countedIn files t (getD kinds i Catalogo)
   unfolding countedOf

@@ -11,14 +11,14 @@ use native.Mathlib.Nat.{mod-lt}
 use native.Mathlib.Omega.{arith}
 use lib.Dec.{eqb}
 use lib.ListN.{length, length-map, getD, replicate}
-use borrow.Author.Tests.{eqb-true, eq-eqb}
+use borrow.Author.Tests.{eqb-true, eq-eqb, ne-eqb}
 use Rattle.laws.specs.Count.{total}
 use Rattle.laws.specs.Listed.{In, Once}
 use Rattle.laws.specs.Nest.{Nest, node, run, many}
 use Rattle.laws.specs.Row.{pick}
 use Rattle.laws.proofs.FindLaws.{true-false}
 use Rattle.laws.proofs.NestLaws.{at, at-within, at-some, run-none}
-use Rattle.laws.proofs.ListedLaws.{in-map, map-in, once-map}
+use Rattle.laws.proofs.ListedLaws.{in-same, in-map, map-in, once-map}
 use Rattle.laws.proofs.ManyLaws.{many-run, run-many, placesIn, places-long, places-once, place-stands, stands-place}
 use Rattle.record.specs.declared.kind.Kind.{Kind}
 use Rattle.record.specs.declared.kind.Which.{Which}
@@ -28,12 +28,12 @@ use Rattle.record.specs.declared.reason.Finding.the-variants.{Fine, Broken}
 use Rattle.record.specs.Table.{fileOf, fileCount, whichOf}
 use Rattle.record.specs.Files.{Files}
 use Rattle.record.specs.Breaks.{numberOf, findingOf}
-use Rattle.record.proofs.TableLaws.{sane, which-file}
+use Rattle.record.proofs.TableLaws.{sane, file-same, which-file}
 use Rattle.judge.specs.Broken.{groups, testsOf, holds, IsBroken, breaksIn, atWhich, breaksOf, breaks, First, Finds}
 use Rattle.judge.specs.Verdict.{judged, verdictOf}
 use Rattle.judge.proofs.Exact.{stands, stood, accepted-plainly, exact}
 use Rattle.grids.specs.Grid.{lowest, cellOf, gridOf}
-use Rattle.grids.specs.Listed.{breakAt, Breaks}
+use Rattle.grids.specs.Listed.{breakAt, Breaks, BreaksIn}
 use Rattle.grids.specs.Sum.{mostInCell}
 use Rattle.grids.proofs.TenLaws.{tests-none, file-most, shape-most}
 use Rattle.grids.proofs.GridLaws.{positive, in-file, in-files, Lowest, lowest-is, lowest-at, lowest-none, first-ten, zeros-are, grid-total, not-long}
@@ -150,6 +150,58 @@ module _ (files : Files) where
     record { once = list-once; broken = list-broken; all = list-all },
     length-map (placesIn (breaksOf files (lowest files))) (λ p. lowest files ∷ p) ∙ places-long (breaksOf files (lowest files)) ∙ sym (grid-total files),
   )
+
+  -- OF ONE FILE
+  fileList : Kind → List (List ℕ)
+  fileList k = map (λ p. lowest files ∷ fileOf k ∷ p) (placesIn (breaksIn files (lowest files) k))
+
+  in-file-breaks : (k : Kind) (q : List ℕ) → at (breaksOf files (lowest files)) (fileOf k ∷ q) ≡ at (breaksIn files (lowest files) k) q
+  unfolding breaksOf
+  in-file-breaks k q =
+      at-within (fileCount + 1) (λ m. atWhich (breaksIn files (lowest files)) (whichOf m)) (fileOf k) q (omega (arith, sane k))
+      ∙ ap (λ (w : Which). at (atWhich (breaksIn files (lowest files)) w) q) (which-file k)
+
+  file-broken : (k : Kind) (p : List ℕ) → In p (fileList k) → (n : ℕ) × (i : ℕ) × (f : ℕ) × (p ≡ breakAt n k i f) × IsBroken files n k i f
+  unfolding fileList head tail listOf
+  file-broken k p h =
+      let a = map-in (λ q. lowest files ∷ fileOf k ∷ q) (placesIn (breaksIn files (lowest files) k)) h in
+      let b = place-stands (breaksIn files (lowest files) k) (a .0) (a .1) in
+      let c = stands-place (breaksOf files (lowest files)) (fileOf k ∷ a .0) (in-file-breaks k (a .0) ∙ b .1) in
+      let w = list-broken p (in-same (sym (a .2)) (in-map (λ q. lowest files ∷ q) c)) in
+      let e : fileOf (w .1) ≡ fileOf k = ap (λ (x : List ℕ). head (tail x)) (sym (w .4) ∙ a .2) in
+      let q = file-same (w .1) k e in
+      (w .0, w .2, w .3, w .4 ∙ ap (λ (x : Kind). breakAt (w .0) x (w .2) (w .3)) q, subst (λ (x : Kind). IsBroken files (w .0) x (w .2) (w .3)) q (w .5))
+
+  file-all : (k : Kind) (n i f : ℕ) → IsBroken files n k i f → In (breakAt n k i f) (fileList k)
+  unfolding fileList
+  file-all k n i f w =
+      let e = broken-lowest n k i f w in
+      let s = holds-stands n k i f (w .here) in
+      let a : at (breaksIn files (lowest files) k) (i ∷ f ∷ n % 10 ∷ []) ≡ some (s .0) =
+      sym (in-file-breaks k (i ∷ f ∷ n % 10 ∷ [])) ∙ ap (λ (t : ℕ). at (breaksOf files t) (fileOf k ∷ i ∷ f ∷ n % 10 ∷ [])) e ∙ s .2 in
+      in-same (ap (λ (t : ℕ). t ∷ fileOf k ∷ i ∷ f ∷ n % 10 ∷ []) e) (in-map (λ p. lowest files ∷ fileOf k ∷ p) (stands-place (breaksIn files (lowest files) k) (i ∷ f ∷ n % 10 ∷ []) a))
+
+  file-once : (k : Kind) → Once (fileList k)
+  unfolding fileList
+  file-once k =
+      once-map (λ p. lowest files ∷ fileOf k ∷ p) (λ p q e. tail-same (fileOf k) p q (tail-same (lowest files) (fileOf k ∷ p) (fileOf k ∷ q) e)) _
+      (places-once (breaksIn files (lowest files) k))
+
+  cell-lowest : (k : Kind) → cellOf files k (lowest files) ≡ many (breaksIn files (lowest files) k)
+  unfolding cellOf
+  cell-lowest k = rw (eq-eqb (lowest files) (lowest files) refl)
+
+  pub each-file-once : (k : Kind) → (list : List (List ℕ)) × BreaksIn files k list × (length list ≡ cellOf files k (lowest files))
+  unfolding fileList
+  each-file-once k = (
+    fileList k,
+    record { once = file-once k; broken = file-broken k; all = file-all k },
+    length-map (placesIn (breaksIn files (lowest files) k)) (λ p. lowest files ∷ fileOf k ∷ p) ∙ places-long (breaksIn files (lowest files) k) ∙ sym (cell-lowest k),
+  )
+
+  pub other-tens-zero : (k : Kind) (t : ℕ) → (t ≡ lowest files → ⊥) → cellOf files k t ≡ 0
+  unfolding cellOf
+  other-tens-zero k t ne = rw (ne-eqb t (lowest files) ne)
 
   -- IT IS ZERO exactly if the delivery is accepted
   no-test : ((t : ℕ) → t < groups + 1 → many (breaksOf files t) ≡ 0) → (n : ℕ) (k : Kind) (i f : ℕ) → holds files n k i f ≡ false

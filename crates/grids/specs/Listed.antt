@@ -18,3 +18,9 @@ pub record Breaks (files : Files) (list : List (List ℕ)) : Type 0 where
   pub once : Once list
   pub broken : (p : List ℕ) → In p list → (n : ℕ) × (k : Kind) × (i : ℕ) × (f : ℕ) × (p ≡ breakAt n k i f) × IsBroken files n k i f
   pub all : (n : ℕ) (k : Kind) (i f : ℕ) → IsBroken files n k i f → In (breakAt n k i f) list
+
+-- the same of file k alone
+pub record BreaksIn (files : Files) (k : Kind) (list : List (List ℕ)) : Type 0 where
+  pub once : Once list
+  pub broken : (p : List ℕ) → In p list → (n : ℕ) × (i : ℕ) × (f : ℕ) × (p ≡ breakAt n k i f) × IsBroken files n k i f
+  pub all : (n i f : ℕ) → IsBroken files n k i f → In (breakAt n k i f) list
