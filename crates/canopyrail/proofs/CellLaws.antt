@@ -5,20 +5,17 @@ use mathlib.Core.Bool.{Bool, true, false, _||_}
 use mathlib.Core.List.{List, [], _∷_, _++_, map}
 use mathlib.Core.Path.{_≡_, refl, sym, ap, _∙_}
 use native.Mathlib.Omega.{arith}
-use lib.Dec.{ltb, eqb}
+use lib.Dec.{eqb}
 use lib.ListN.{length, getD, drop, replicate, List·getD-append}
 use borrow.Author.Tests.{lt-ltb, le-ltb, eqb-true, eqb-false}
-use Rattle.laws.specs.Row.{pick, row}
 use Rattle.laws.proofs.FindLaws.{true-false}
 use Rattle.laws.proofs.RowLaws.{row-at, length-row}
 use Rattle.record.specs.declared.reason.Reason.the-variants.{ShortRoom61}
 use Rattle.record.specs.declared.reason.Finding.{Finding}
 use Rattle.record.specs.declared.reason.Finding.the-variants.{Fine, Broken}
-use Rattle.record.specs.Table.{fileCount}
 use Rattle.record.specs.Breaks.{fine}
 use Rattle.record.specs.Files.{Files, filesOf}
 use Rattle.judge.specs.Broken.{groups}
-use Rattle.judge.specs.Verdict.{judged}
 use Rattle.judge.proofs.Cases.{no-files}
 use Rattle.grids.specs.Grid.{Grid, gridOf}
 use Rattle.grids.specs.Sum.{cellAt, plus, addFinding, addOf}

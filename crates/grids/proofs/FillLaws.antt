@@ -1,6 +1,6 @@
 -- Loops that fill memory place by place, and a grid cell by cell, row after row.
 -- Assumes nothing.
-use Prim.Native.Nat.{ℕ, zero, suc, _+_, _<_, _≤_}
+use Prim.Native.Nat.{ℕ, suc, _+_, _<_, _≤_}
 use mathlib.Core.Bool.{Bool, true, false}
 use mathlib.Core.List.{List, [], _∷_, _++_}
 use mathlib.Core.Path.{_≡_, refl, sym, ap, ap₂, _∙_}
@@ -8,9 +8,9 @@ use mathlib.Core.Logic.{_⊎_, inl, inr, ⊎-elim}
 use native.Mathlib.Nat.{eq-or-lt-of-le, le-of-suc-le-suc}
 use native.Mathlib.Omega.{arith}
 use lib.Dec.{eqb}
-use borrow.Author.Tests.{eqb-true, eqb-false}
 use lib.ListN.{length, getD, take, drop, set, length-set, take-append-drop, replicate}
 use lib.Seq.{getD-set-same, getD-set-other, drop-set-lt, drop-drop}
+use borrow.Author.Tests.{eqb-true, eqb-false}
 use Rattle.laws.specs.Row.{row}
 use Rattle.laws.proofs.RowLaws.{length-row, row-at, row-start, row-more}
 use Rattle.record.specs.Table.{fileCount}

@@ -10,14 +10,14 @@ use native.Mathlib.Nat.{le-of-suc-le-suc, not-suc-le-zero, eq-or-lt-of-le}
 use native.Mathlib.Omega.{arith}
 use lib.Dec.{ltb, eqb}
 use lib.ListN.{length, getD, replicate, length-map}
-use borrow.Author.Tests.{ltb-true, ltb-false, lt-ltb, le-ltb, eqb-true, eqb-false, eq-eqb, ne-eqb}
+use borrow.Author.Tests.{ltb-true, ltb-false, lt-ltb, eqb-true, eq-eqb, ne-eqb}
 use Rattle.laws.specs.Find.{any, firstIndex}
 use Rattle.laws.specs.Count.{bit, sumOf, total}
-use Rattle.laws.specs.Nest.{Nest, leaf, node, one, many}
+use Rattle.laws.specs.Nest.{one, many}
 use Rattle.laws.specs.Row.{pick, row}
-use Rattle.laws.proofs.FindLaws.{true-false, index-here, index-none, index-none-at, index-some-at, any-at, any-no}
+use Rattle.laws.proofs.FindLaws.{index-here, index-none, index-none-at, index-some-at, any-at, any-no}
 use Rattle.laws.proofs.RowLaws.{row-same, row-at, length-row}
-use Rattle.laws.proofs.SumLaws.{sum-none, sum-no, sum-one, sum-same, total-row}
+use Rattle.laws.proofs.SumLaws.{sum-none, sum-no, sum-one, total-row}
 use Rattle.index.specs.declared.tally.Tally.{Tally}
 use Rattle.index.specs.Tally.{noTally}
 use Rattle.record.specs.declared.kind.Kind.{Kind}

@@ -4,22 +4,20 @@
 use Prim.Native.Nat.{ℕ, zero, suc, _+_, _*_, _/_, _%_, _<_, _≤_}
 use mathlib.Core.Bool.{Bool, true, false}
 use mathlib.Core.List.{List, [], _∷_, map}
-use mathlib.Core.Option.{Option, none, some}
-use mathlib.Core.Path.{_≡_, refl, sym, ap, ap₂, subst, _∙_}
-use mathlib.Core.Logic.{_⊎_, inl, inr, ⊎-elim}
-use native.Mathlib.Nat.{mod-lt}
+use mathlib.Core.Option.{some}
+use mathlib.Core.Path.{_≡_, refl, sym, ap, subst, _∙_}
+use mathlib.Core.Logic.{_⊎_, ⊎-elim}
 use native.Mathlib.Omega.{arith}
 use lib.Dec.{eqb}
-use lib.ListN.{length, length-map, getD, replicate}
+use lib.ListN.{length, length-map, replicate}
 use borrow.Author.Tests.{eqb-true, eq-eqb, ne-eqb}
 use Rattle.laws.specs.Count.{total}
 use Rattle.laws.specs.Listed.{In, Once}
-use Rattle.laws.specs.Nest.{Nest, node, run, many}
+use Rattle.laws.specs.Nest.{many}
 use Rattle.laws.specs.Row.{pick}
-use Rattle.laws.proofs.FindLaws.{true-false}
 use Rattle.laws.proofs.NestLaws.{at, at-within, at-some, run-none}
 use Rattle.laws.proofs.ListedLaws.{in-same, in-map, map-in, once-map}
-use Rattle.laws.proofs.ManyLaws.{many-run, run-many, placesIn, places-long, places-once, place-stands, stands-place}
+use Rattle.laws.proofs.ManyLaws.{many-run, placesIn, places-long, places-once, place-stands, stands-place}
 use Rattle.record.specs.declared.kind.Kind.{Kind}
 use Rattle.record.specs.declared.kind.Which.{Which}
 use Rattle.record.specs.declared.reason.Break.{Break}
@@ -27,9 +25,9 @@ use Rattle.record.specs.declared.reason.Finding.{Finding}
 use Rattle.record.specs.declared.reason.Finding.the-variants.{Fine, Broken}
 use Rattle.record.specs.Table.{fileOf, fileCount, whichOf}
 use Rattle.record.specs.Files.{Files}
-use Rattle.record.specs.Breaks.{numberOf, findingOf}
+use Rattle.record.specs.Breaks.{numberOf}
 use Rattle.record.proofs.TableLaws.{sane, file-same, which-file}
-use Rattle.judge.specs.Broken.{groups, testsOf, holds, IsBroken, breaksIn, atWhich, breaksOf, breaks, First, Finds}
+use Rattle.judge.specs.Broken.{groups, holds, IsBroken, breaksIn, atWhich, breaksOf, breaks, First, Finds}
 use Rattle.judge.specs.Verdict.{judged, verdictOf}
 use Rattle.judge.proofs.Exact.{stands, stood, accepted-plainly, exact}
 use Rattle.grids.specs.Grid.{lowest, cellOf, gridOf}

@@ -1,19 +1,18 @@
 -- The rows as the program's code writes them: a count after the other.
 -- Assumes nothing.
-use Prim.Native.Nat.{ℕ, zero, suc, _+_, _*_, _-_, _<_, _≤_}
+use Prim.Native.Nat.{ℕ, _+_, _*_, _-_, _≤_}
 use mathlib.Core.List.{List, [], _∷_, _++_, append-assoc, append-nil}
 use mathlib.Core.Path.{_≡_, refl, sym, ap, ap₂, _∙_}
 use native.Mathlib.Numerals.{add-one}
 use native.Mathlib.Omega.{arith}
 use lib.ListN.{length, getD, take, drop, set, length-set, length-append, replicate}
-use lib.Seq.{take-at, take-all, length-take-le, take-suc-set, drop-set-lt, drop-drop}
-use borrow.Rule.Slice.PartMut.{putMid, midOf, same-len-mid, mid-len, drop-put}
+use lib.Seq.{take-at, take-all, length-take-le, take-suc-set}
+use borrow.Rule.Slice.PartMut.{putMid, midOf, same-len-mid, mid-len}
 use Rattle.laws.specs.Row.{row, strung}
 use Rattle.field.specs.Digits.{digits}
 use Rattle.record.specs.Table.{fileCount}
 use Rattle.judge.specs.Broken.{groups}
 use Rattle.judge.specs.Line.{bigLine, lineIn}
-use Rattle.grids.specs.declared.rows.Rows.{Rows}
 use Rattle.grids.specs.Grid.{Grid}
 use Rattle.grids.specs.Sum.{cellAt}
 use Rattle.grids.specs.Rows.{countText, rowText, rowsText, rowsRoom, rowsIn}

@@ -2,36 +2,21 @@
 -- Assumes nothing.
 use Prim.Native.Nat.{ℕ, _+_, _-_, _<_, _≤_}
 use mathlib.Core.Bool.{Bool, true, false}
-use mathlib.Core.List.{List, []}
 use mathlib.Core.Path.{_≡_, refl, sym, ap, _∙_}
 use native.Mathlib.Omega.{arith}
 use lib.Dec.{ltb}
-use lib.ListN.{getD}
 use borrow.Author.Tests.{ltb-true, ltb-false, lt-ltb, le-ltb}
 use Rattle.laws.specs.Find.{any}
-use Rattle.laws.specs.Row.{pick, row}
-use Rattle.laws.proofs.FindLaws.{any-more, any-at, any-no, any-true, any-false, true-false}
+use Rattle.laws.specs.Row.{pick}
+use Rattle.laws.proofs.FindLaws.{any-at, any-no, any-true, any-false, true-false}
 use Rattle.laws.proofs.RowLaws.{row-same, same-test}
-use Rattle.record.specs.declared.reason.Reason.the-variants.{TooMany67}
-use Rattle.record.specs.declared.reason.Finding.{Finding}
-use Rattle.record.specs.declared.reason.Finding.the-variants.{Fine, Broken}
+use Rattle.record.specs.declared.reason.Finding.the-variants.{Fine}
 use Rattle.record.specs.Table.{fileCount}
 use Rattle.record.specs.Breaks.{fine}
 use Rattle.judge.specs.Broken.{groups}
 use Rattle.grids.specs.Grid.{Grid}
 use Rattle.grids.specs.Sum.{mostInCell, cellAt, tooMany, plus, addFinding, addOf, refused67}
 use Rattle.grids.proofs.FillLaws.{Shaped, grid-same, shaped-row, cell-row}
-
--- LOOPS that look for an index at which a test holds
-pub any-none-yet : (p : ℕ → Bool) → any p 0 ≡ false
-unfolding any
-any-none-yet p = refl
-
-pub any-not-here : (p : ℕ → Bool) {i : ℕ} → any p i ≡ false → p i ≡ false → any p (i + 1) ≡ false
-any-not-here p {i} e h = any-more p i ∙ rw (e, h)
-
-pub any-to : (p : ℕ → Bool) {i n : ℕ} → i ≤ n → n ≤ i → any p i ≡ false → any p n ≡ false
-any-to p {i} {n} l u e = let q : i ≡ n = omega arith in rw q at e
 
 -- a cell's sum, and whether it is too large
 abbrev pub sumCell : Grid → Grid → ℕ → ℕ → ℕ

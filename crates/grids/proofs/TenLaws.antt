@@ -5,29 +5,27 @@ use Prim.Native.Nat.{ℕ, zero, suc, _+_, _-_, _*_, _/_, _%_, _<_, _≤_, min}
 use mathlib.Core.Bool.{Bool, true, false, _&&_, and-false}
 use mathlib.Core.List.{List, [], _∷_}
 use mathlib.Core.Path.{_≡_, refl, sym, ap, ap₂, _∙_}
-use mathlib.Core.Logic.{_⊎_, ⊎-elim}
 use native.Mathlib.Nat.{le-refl, mul-comm, div-le-of-le-mul}
 use native.Mathlib.Omega.{arith}
-use lib.Dec.{leb, ltb, eqb}
+use lib.Dec.{leb, eqb}
 use lib.ListN.{length, getD, List·getD-eq-default}
 use borrow.Author.Tests.{le-leb, lt-leb, eq-eqb, ne-eqb, ltb-false}
-use Rattle.laws.specs.Find.{hit, firstIndex}
+use Rattle.laws.specs.Find.{firstIndex}
 use Rattle.laws.specs.Count.{bit, howMany, sumOf}
-use Rattle.laws.specs.Nest.{one, many}
+use Rattle.laws.specs.Nest.{many}
 use Rattle.laws.specs.Row.{pick}
 use Rattle.laws.proofs.SumLaws.{sum-same, sum-plus, sum-none, sum-past, sum-after, sum-one, sum-swap, sum-tens, sum-most, count-sum}
 use Rattle.index.specs.declared.Found.{Found}
 use Rattle.index.specs.declared.Found.the-variants.{At, Nothing}
 use Rattle.index.specs.declared.tally.Tally.{Tally}
 use Rattle.index.specs.Keys.{foundOf}
-use Rattle.index.specs.Tally.{noTally, withCell, tallyOf}
+use Rattle.index.specs.Tally.{withCell, tallyOf}
 use Rattle.record.specs.declared.kind.Kind.{Kind}
 use Rattle.record.specs.Table.{fieldsOf, lengthOf, limit}
 use Rattle.record.specs.Cut.{countOf, recordOf}
 use Rattle.record.specs.Files.{Files, deliveryOf}
 use Rattle.record.specs.Rules.{breaks10, breaks11, twenties}
 use Rattle.record.specs.Breaks.{shapeTests}
-use Rattle.record.specs.Says.{tableOf}
 use Rattle.record.specs.machinery.Counts.{shapeMany, placeMany, recordMany, fieldsMany}
 use Rattle.record.proofs.TableLaws.{sane}
 use Rattle.record.proofs.CountingLaws.{hit-one}

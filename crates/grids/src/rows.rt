@@ -16,10 +16,15 @@ ghost use Rattle.judge.specs.Broken.{groups};
 ghost use Rattle.judge.specs.Line.{bigLine};
 ghost use Rattle.grids.specs.Rows.{countText, rowsText, rowsIn, programRows};
 
-// Up to 385 bytes: a row has 55, its line feed among them, and there are seven; what lies past them is 0.
+// A count has ten digits and a byte after them; so many bytes all rows have, their line feeds among them.
+const DIGITS: usize = 10;
+
+pub const ROWS: usize = 385;
+
+// The rows' bytes, or a shorter line's; what lies past it is 0.
 pub struct Rows {
     pub len: usize,
-    pub bytes: [u8; 385],
+    pub bytes: [u8; ROWS],
 }
 
 // What stands after a count: a blank, after the last of a row a line feed.
@@ -34,7 +39,7 @@ fn put_count(buf: &mut [u8], at: usize, g: usize, n: u64) -> usize
     requires { ⌜ at + 11 ≤ length (now buf) ⌝ }
     ensures { λ r. ⌜ (r ≡ at + 11) × (take r (now (buf .exit)) ≡ take at (now (buf .entry)) ++ countText g n) × (length (now (buf .exit)) ≡ length (now (buf .entry))) ⌝ }
 {
-    let next = at + 10;
+    let next = at + DIGITS;
     put_number(&mut buf[at..next], n);
     buf[next] = end_of(g);
     next + 1
@@ -44,7 +49,7 @@ fn put_count(buf: &mut [u8], at: usize, g: usize, n: u64) -> usize
 pub fn rows_of(grid: [[u64; GROUPS]; FILES]) -> Rows
     ensures { λ r. ⌜ r ≡ rowsIn (rowsText grid) ⌝ }
 {
-    let mut bytes = [0u8; 385];
+    let mut bytes = [0u8; ROWS];
     let mut at = 0;
     let mut i = 0;
     while i < FILES {
@@ -55,7 +60,7 @@ pub fn rows_of(grid: [[u64; GROUPS]; FILES]) -> Rows
         }
         i += 1;
     }
-    Rows { len: 385, bytes }
+    Rows { len: ROWS, bytes }
 }
 
 // A line in the rows' stead.
@@ -64,7 +69,7 @@ fn rows_with(file: usize) -> Rows
 {
     let line = big_line(file);
     let from = line.bytes;
-    let mut bytes = [0u8; 385];
+    let mut bytes = [0u8; ROWS];
     let mut i = 0;
     while i < 6 {
         bytes[i] = from[i];

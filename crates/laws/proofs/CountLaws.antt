@@ -31,6 +31,10 @@ pub count-more : (p : ℕ → Bool) (n : ℕ) → howMany p (n + 1) ≡ howMany 
 unfolding howMany
 count-more p n = rw add-one
 
+-- at the end of a loop that counted up to i, which is n
+pub count-end : (p : ℕ → Bool) {i n m : ℕ} → i ≤ n → n ≤ i → m ≡ howMany p i → m ≡ howMany p n
+count-end p {i} {n} l u e = let q : i ≡ n = omega arith in rw q at e
+
 -- OF NOTHING: a test that holds nowhere counts 0, and one that counts 0 holds nowhere
 pub count-none : (p : ℕ → Bool) (n : ℕ) → ((k : ℕ) → k < n → p k ≡ false) → howMany p n ≡ 0
 unfolding howMany

@@ -1,7 +1,7 @@
 -- The laws of lists that have each element once (specs/Listed.antt): of two lists one after the other, and of a list's images.
 -- Assumes nothing.
 use mathlib.Core.List.{List, [], _∷_, _++_, map}
-use mathlib.Core.Path.{_≡_, refl, sym, ap, _∙_}
+use mathlib.Core.Path.{_≡_, refl, sym, ap}
 use mathlib.Core.Logic.{_⊎_, inl, inr, ⊎-elim}
 use Rattle.laws.specs.Listed.{In, first, later, Once, end, more}
 

@@ -1,7 +1,7 @@
 -- How many answers a tree has (specs/Nest.antt): as many as places at which one stands, each taken once; none exactly if there is no
 -- first answer.
 -- Assumes nothing.
-use Prim.Native.Nat.{ℕ, zero, suc, _+_, _<_, _≤_}
+use Prim.Native.Nat.{ℕ, zero, suc, _+_, _<_}
 use mathlib.Core.List.{List, [], _∷_, _++_, map}
 use mathlib.Core.Option.{Option, none, some}
 use mathlib.Core.Path.{_≡_, refl, sym, ap, ap₂, _∙_}
@@ -10,7 +10,6 @@ use native.Mathlib.Nat.{le-of-suc-le-suc, not-suc-le-zero, eq-or-lt-of-le, le-re
 use native.Mathlib.Omega.{arith}
 use lib.ListN.{length, length-append, length-map}
 use Rattle.laws.specs.Count.{sumOf}
-use Rattle.laws.specs.Find.{firstOf}
 use Rattle.laws.specs.Listed.{In, first, later, Once, end, more}
 use Rattle.laws.specs.Nest.{Nest, leaf, node, run, one, many}
 use Rattle.laws.proofs.FindLaws.{first-none, none-at}

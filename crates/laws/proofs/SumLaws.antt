@@ -2,7 +2,7 @@
 -- Assumes nothing.
 use Prim.Native.Nat.{ℕ, zero, suc, _+_, _*_, _<_, _≤_}
 use mathlib.Core.Bool.{Bool}
-use mathlib.Core.List.{List, [], _∷_, _++_, map}
+use mathlib.Core.List.{List, [], _∷_, _++_}
 use mathlib.Core.Path.{_≡_, refl, sym, ap, ap₂, _∙_}
 use mathlib.Core.Logic.{⊎-elim}
 use native.Mathlib.Numerals.{add-one}
@@ -15,6 +15,10 @@ use Rattle.laws.specs.Row.{row}
 pub sum-more : (g : ℕ → ℕ) (n : ℕ) → sumOf g (n + 1) ≡ sumOf g n + g n
 unfolding sumOf
 sum-more g n = rw add-one
+
+-- at the end of a loop that added up to i, which is n
+pub sum-end : (g : ℕ → ℕ) {i n m : ℕ} → i ≤ n → n ≤ i → m ≡ sumOf g i → m ≡ sumOf g n
+sum-end g {i} {n} l u e = let q : i ≡ n = omega arith in rw q at e
 
 -- OF TWO that agree below n,
 pub sum-same : (g h : ℕ → ℕ) (n : ℕ) → ((k : ℕ) → k < n → g k ≡ h k) → sumOf g n ≡ sumOf h n

@@ -1,24 +1,22 @@
--- Loops that count breaks (specs/machinery/Counts.antt): a record that a glance shows to be lawful has none, and the counts are small.
+-- Breaks that are counted (specs/machinery/Counts.antt): as many as the trees have; a record that a glance shows to be lawful has none.
 -- Assumes nothing.
-use Prim.Native.Nat.{ℕ, _+_, _*_, _<_, _≤_}
+use Prim.Native.Nat.{ℕ, _+_}
 use mathlib.Core.Bool.{Bool, true, false}
 use mathlib.Core.List.{List}
-use mathlib.Core.Option.{Option, none, some}
-use mathlib.Core.Path.{_≡_, refl, sym, ap, _∙_}
-use native.Mathlib.Omega.{arith}
-use lib.ListN.{length, getD}
+use mathlib.Core.Option.{Option, none}
+use mathlib.Core.Path.{_≡_, refl, sym, _∙_}
+use lib.ListN.{getD}
 use Rattle.laws.specs.Find.{hit}
 use Rattle.laws.specs.Nest.{run, one, many}
-use Rattle.laws.specs.Count.{bit, howMany, sumOf}
+use Rattle.laws.specs.Count.{bit}
 use Rattle.laws.proofs.SumLaws.{sum-same, count-sum}
 use Rattle.laws.proofs.ManyLaws.{run-many}
 use Rattle.record.specs.declared.kind.Kind.{Kind}
 use Rattle.record.specs.declared.reason.Break.{Break}
-use Rattle.record.specs.declared.reason.Finding.{Finding}
-use Rattle.record.specs.declared.reason.Finding.the-variants.{Fine, Broken}
+use Rattle.record.specs.declared.reason.Finding.the-variants.{Fine}
 use Rattle.record.specs.Table.{fieldsOf}
 use Rattle.record.specs.Rules.{twenties}
-use Rattle.record.specs.Breaks.{findingOf, atPlace, twentyReasons, recordBreaks, recordFinding}
+use Rattle.record.specs.Breaks.{findingOf, atPlace, recordBreaks, recordFinding}
 use Rattle.record.specs.machinery.Counts.{placeMany, recordMany}
 use Rattle.record.proofs.FindingLaws.{fine-none}
 
@@ -40,10 +38,3 @@ fine-many s k i e = sym (run-many (recordBreaks s k i) (fine-is (run (recordBrea
   where
     fine-is : (o : Option Break) → findingOf o ≡ Fine → o ≡ none
     fine-is o h = fine-none o (rw h)
-
--- LOOPS: at the end of one that counted up to i, which is n
-pub sum-end : (g : ℕ → ℕ) {i n m : ℕ} → i ≤ n → n ≤ i → m ≡ sumOf g i → m ≡ sumOf g n
-sum-end g {i} {n} l u e = let q : i ≡ n = omega arith in rw q at e
-
-pub count-end : (p : ℕ → Bool) {i n m : ℕ} → i ≤ n → n ≤ i → m ≡ howMany p i → m ≡ howMany p n
-count-end p {i} {n} l u e = let q : i ≡ n = omega arith in rw q at e

@@ -1,7 +1,7 @@
 -- `canopyrail::delivery::canopyrail_count` meets its contract.
 -- Assumes nothing.
-use Rattle.canopyrail.proofs.CallLaws.{on-none, on-some}
 use borrow.Author.Needs.{needs}
+use Rattle.canopyrail.proofs.CallLaws.{on-none, on-some}
 use Rattle.canopyrail.proofs.delivery.canopyrail_count.Statement.{statement}
 use Rattle.canopyrail.proofs.delivery.canopyrail_count.Tie as tie
 

@@ -1,11 +1,11 @@
 -- `canopyrail::grid::canopyrail_grid` meets its contract.
 -- Assumes nothing.
 use mathlib.Core.Path.{ap, _∙_}
+use native.Mathlib.Omega.{arith}
 use denote.Ref.{now}
+use borrow.Author.Needs.{needs}
 use Rattle.grids.specs.Grid.{gridOf}
 use Rattle.canopyrail.proofs.CellLaws.{counts-few, counts-put, none-grid}
-use native.Mathlib.Omega.{arith}
-use borrow.Author.Needs.{needs}
 use Rattle.canopyrail.proofs.grid.canopyrail_grid.Statement.{statement}
 use Rattle.canopyrail.proofs.grid.canopyrail_grid.Tie as tie
 

@@ -2,9 +2,8 @@
 -- Assumes nothing.
 use mathlib.Core.Path.{sym, _∙_}
 use native.Mathlib.Omega.{arith}
-use denote.Ref.{now}
-use Rattle.canopyrail.proofs.CellLaws.{adds-few, adds-few-from, adds-refused, adds-put}
 use borrow.Author.Needs.{needs}
+use Rattle.canopyrail.proofs.CellLaws.{adds-few, adds-few-from, adds-refused, adds-put}
 use Rattle.canopyrail.proofs.grid.canopyrail_grid_add.Statement.{statement}
 use Rattle.canopyrail.proofs.grid.canopyrail_grid_add.Tie as tie
 

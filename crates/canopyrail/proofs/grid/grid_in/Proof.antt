@@ -1,13 +1,13 @@
 -- `canopyrail::grid::grid_in` meets its contract.
 -- Assumes nothing.
-use Prim.Native.Nat.{_+_, _*_, _-_, _/_, _%_, _≤_, _<_}
-use mathlib.Core.Path.{_≡_, refl, sym, ap, _∙_}
+use Prim.Native.Nat.{_-_, _≤_, _<_}
+use mathlib.Core.Path.{refl}
 use native.Mathlib.Omega.{arith}
+use borrow.Author.Needs.{needs}
 use Rattle.record.specs.Table.{fileCount}
 use Rattle.judge.specs.Broken.{groups}
 use Rattle.grids.proofs.FillLaws.{Filling, fill-start, fill-cell, fill-row, fill-end}
 use Rattle.canopyrail.proofs.CellLaws.{heldCell}
-use borrow.Author.Needs.{needs}
 use Rattle.canopyrail.proofs.grid.grid_in.Statement.{statement}
 use Rattle.canopyrail.proofs.grid.grid_in.Tie as tie
 

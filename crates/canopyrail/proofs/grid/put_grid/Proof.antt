@@ -1,13 +1,13 @@
 -- `canopyrail::grid::put_grid` meets its contract.
 -- Assumes nothing.
-use Prim.Native.Nat.{_+_, _*_, _-_, _/_, _%_, _≤_, _<_}
-use mathlib.Core.Path.{_≡_, refl, sym, ap, _∙_}
+use Prim.Native.Nat.{_-_, _/_, _%_, _≤_}
+use mathlib.Core.Path.{_≡_, refl}
 use native.Mathlib.Omega.{arith}
+use borrow.Author.Needs.{needs}
 use Rattle.judge.specs.Broken.{groups}
 use Rattle.grids.specs.Sum.{cellAt}
 use Rattle.grids.proofs.FillLaws.{Putting, putting-start, putting-more, putting-end}
 use Rattle.canopyrail.specs.Cells.{cellCount}
-use borrow.Author.Needs.{needs}
 use Rattle.canopyrail.proofs.grid.put_grid.Statement.{statement}
 use Rattle.canopyrail.proofs.grid.put_grid.Tie as tie
 

@@ -1,14 +1,13 @@
 -- `grids::grid::column` meets its contract.
 -- Assumes nothing.
-use Prim.Native.Nat.{_+_, _-_, _≤_, _<_}
-use mathlib.Core.Path.{_≡_, refl, sym, ap, _∙_}
+use Prim.Native.Nat.{_-_, _≤_, _<_}
 use native.Mathlib.Omega.{arith}
+use borrow.Author.Needs.{needs}
 use Rattle.record.specs.Table.{fileCount}
 use Rattle.judge.specs.Broken.{groups}
 use Rattle.grids.specs.machinery.Counted.{columnOf}
 use Rattle.grids.proofs.FillLaws.{Filling, fill-start, fill-cell, fill-row, fill-end}
 use Rattle.grids.proofs.GridLaws.{columnCell}
-use borrow.Author.Needs.{needs}
 use Rattle.grids.proofs.grid.column.Statement.{statement}
 use Rattle.grids.proofs.grid.column.Tie as tie
 

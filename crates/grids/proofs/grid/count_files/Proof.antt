@@ -1,17 +1,17 @@
 -- `grids::grid::count_files` meets its contract.
 -- Assumes nothing.
-use Prim.Native.Nat.{_+_, _-_, _≤_, _<_}
-use mathlib.Core.Path.{_≡_, refl, sym, ap, _∙_}
-use native.Mathlib.Omega.{arith}
+use Prim.Native.Nat.{_-_, _≤_}
+use mathlib.Core.Path.{_≡_, refl, _∙_}
 use mathlib.Core.List.{[], map}
+use native.Mathlib.Omega.{arith}
 use lib.ListN.{length, take, length-set}
 use denote.Ref.{now}
+use borrow.Author.Needs.{needs}
 use Rattle.laws.specs.Row.{row}
 use Rattle.laws.proofs.RowLaws.{row-start, row-more, row-end}
 use Rattle.record.specs.Table.{fileCount}
 use Rattle.record.specs.Files.{filesOf}
 use Rattle.grids.proofs.GridLaws.{bytesNo, bytes-turn, bytes-row}
-use borrow.Author.Needs.{needs}
 use Rattle.grids.proofs.grid.count_files.Statement.{statement}
 use Rattle.grids.proofs.grid.count_files.Tie as tie
 

@@ -2,18 +2,18 @@
 -- Assumes nothing.
 use Prim.Native.Nat.{ℕ, _+_, _-_, _≤_}
 use mathlib.Core.List.{List, map}
-use mathlib.Core.Path.{_≡_, sym, ap, _∙_}
+use mathlib.Core.Path.{sym, ap, _∙_}
 use native.Mathlib.Omega.{arith}
+use lib.Dec.{ltb}
+use lib.ListN.{getD}
 use denote.Ref.{now}
+use borrow.Author.Needs.{needs}
+use Rattle.laws.specs.Find.{any}
 use Rattle.record.specs.Files.{filesOf}
+use Rattle.record.specs.Table.{fileCount}
 use Rattle.judge.specs.Broken.{groups}
 use Rattle.grids.specs.machinery.Counted.{columnOf}
 use Rattle.grids.proofs.GridLaws.{Quiet, quiet-start, quiet-more, quiet-here, quiet-end}
-use lib.Dec.{ltb}
-use lib.ListN.{getD}
-use Rattle.laws.specs.Find.{any}
-use Rattle.record.specs.Table.{fileCount}
-use borrow.Author.Needs.{needs}
 use Rattle.grids.proofs.grid.grid_of.Statement.{statement}
 use Rattle.grids.proofs.grid.grid_of.Tie as tie
 

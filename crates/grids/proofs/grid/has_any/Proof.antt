@@ -1,17 +1,16 @@
 -- `grids::grid::has_any` meets its contract.
 -- Assumes nothing.
-use Prim.Native.Nat.{_+_, _-_, _≤_, _<_}
-use mathlib.Core.Path.{_≡_, refl, sym, ap, _∙_}
-use native.Mathlib.Omega.{arith}
+use Prim.Native.Nat.{_-_, _≤_}
+use mathlib.Core.Path.{_≡_, sym}
 use mathlib.Core.Bool.{false}
+use native.Mathlib.Omega.{arith}
 use lib.Dec.{ltb}
 use lib.ListN.{getD}
-use Rattle.laws.specs.Find.{any}
-use Rattle.record.specs.Table.{fileCount}
 use borrow.Author.Tests.{lt-ltb, le-ltb}
-use Rattle.laws.proofs.FindLaws.{any-true}
-use Rattle.grids.proofs.SumLaws.{any-none-yet, any-not-here, any-to}
 use borrow.Author.Needs.{needs}
+use Rattle.laws.specs.Find.{any}
+use Rattle.laws.proofs.FindLaws.{any-start, any-next, any-end, any-true}
+use Rattle.record.specs.Table.{fileCount}
 use Rattle.grids.proofs.grid.has_any.Statement.{statement}
 use Rattle.grids.proofs.grid.has_any.Tie as tie
 
@@ -22,7 +21,7 @@ abbrev μ-loop : tie.MeasureT-loop
 μ-loop counts i₀ i = fileCount - i
 
 loop-holds : tie.Need-loop-holds Inv-loop μ-loop
-loop-holds c = (omega arith, any-none-yet _)
+loop-holds c = (omega arith, any-start _)
 
 mul-if1 : tie.Need-mul-if1 Inv-loop μ-loop
 mul-if1 c = search needs
@@ -40,10 +39,10 @@ loop-less : tie.Need-loop-less Inv-loop μ-loop
 loop-less c = search needs
 
 loop-again : tie.Need-loop-again Inv-loop μ-loop
-loop-again c = let l = c .before .before .loop in (omega (arith, c .before .loop-test .taken), any-not-here _ (l .inv .1) (le-ltb 0 _ (c .if1 .left)))
+loop-again c = let l = c .before .before .loop in (omega (arith, c .before .loop-test .taken), any-next _ (l .inv .1) (le-ltb 0 _ (c .if1 .left)))
 
 returns-2 : tie.Need-returns-2 Inv-loop μ-loop
-returns-2 c = let l = c .before .loop in sym (any-to _ (l .inv .0) (c .loop-test .left) (l .inv .1))
+returns-2 c = let l = c .before .loop in sym (any-end _ (l .inv .0) (c .loop-test .left) (l .inv .1))
 
 pub has-any-spec : {M : Type 1} → statement M
 has-any-spec =

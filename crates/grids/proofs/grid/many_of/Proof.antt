@@ -1,15 +1,15 @@
 -- `grids::grid::many_of` meets its contract.
 -- Assumes nothing.
-use Prim.Native.Nat.{_+_, _-_, _≤_, _<_}
-use mathlib.Core.Path.{_≡_, refl, sym, ap, _∙_}
-use native.Mathlib.Omega.{arith}
+use Prim.Native.Nat.{_-_, _≤_}
+use mathlib.Core.Path.{_≡_, refl, _∙_}
 use mathlib.Core.List.{[]}
+use native.Mathlib.Omega.{arith}
 use lib.ListN.{length, take, length-set}
+use borrow.Author.Needs.{needs}
 use Rattle.laws.specs.Row.{row}
 use Rattle.laws.proofs.RowLaws.{row-start, row-more, row-end}
 use Rattle.record.specs.Table.{fileCount}
 use Rattle.grids.proofs.GridLaws.{manyAt, many-row}
-use borrow.Author.Needs.{needs}
 use Rattle.grids.proofs.grid.many_of.Statement.{statement}
 use Rattle.grids.proofs.grid.many_of.Tie as tie
 

@@ -4,8 +4,8 @@ use Prim.Native.Nat.{_+_}
 use mathlib.Core.Path.{_≡_}
 use native.Mathlib.Omega.{arith}
 use borrow.Author.Tests.{eq-eqb, ne-eqb}
-use Rattle.judge.specs.Broken.{groups}
 use borrow.Author.Needs.{needs}
+use Rattle.judge.specs.Broken.{groups}
 use Rattle.grids.proofs.rows.end_of.Statement.{statement}
 use Rattle.grids.proofs.rows.end_of.Tie as tie
 

@@ -1,10 +1,10 @@
 -- `grids::rows::program_rows` meets its contract.
 -- Assumes nothing.
 use mathlib.Core.Path.{refl, ap, _∙_}
+use borrow.Author.Needs.{needs}
 use Rattle.judge.proofs.LineLaws.{none-big, some-big}
 use Rattle.grids.specs.Grid.{gridOf}
 use Rattle.grids.specs.Rows.{rowsText, rowsIn}
-use borrow.Author.Needs.{needs}
 use Rattle.grids.proofs.rows.program_rows.Statement.{statement}
 use Rattle.grids.proofs.rows.program_rows.Tie as tie
 

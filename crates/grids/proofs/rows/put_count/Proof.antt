@@ -4,9 +4,9 @@ use Prim.Native.Nat.{ℕ}
 use mathlib.Core.List.{[], _∷_, _++_}
 use mathlib.Core.Path.{_∙_, ap}
 use lib.ListN.{take}
+use borrow.Author.Needs.{needs}
 use Rattle.field.specs.Digits.{digits}
 use Rattle.grids.proofs.RowsLaws.{count-put}
-use borrow.Author.Needs.{needs}
 use Rattle.grids.proofs.rows.put_count.Statement.{statement}
 use Rattle.grids.proofs.rows.put_count.Tie as tie
 

@@ -1,13 +1,13 @@
 -- `grids::rows::rows_of` meets its contract.
 -- Assumes nothing.
-use Prim.Native.Nat.{_+_, _-_, _≤_, _<_}
-use mathlib.Core.Path.{_≡_, refl, sym, ap, _∙_}
+use Prim.Native.Nat.{_-_, _≤_, _<_}
+use mathlib.Core.Path.{refl}
 use native.Mathlib.Omega.{arith}
+use borrow.Author.Needs.{needs}
 use Rattle.record.specs.Table.{fileCount}
 use Rattle.judge.specs.Broken.{groups}
-use Rattle.grids.proofs.RowsLaws.{Writing, writing-start, writing-more, writing-row, writing-end}
 use Rattle.grids.specs.Sum.{cellAt}
-use borrow.Author.Needs.{needs}
+use Rattle.grids.proofs.RowsLaws.{Writing, writing-start, writing-more, writing-row, writing-end}
 use Rattle.grids.proofs.rows.rows_of.Statement.{statement}
 use Rattle.grids.proofs.rows.rows_of.Tie as tie
 

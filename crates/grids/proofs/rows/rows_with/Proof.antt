@@ -1,14 +1,14 @@
 -- `grids::rows::rows_with` meets its contract.
 -- Assumes nothing.
-use Prim.Native.Nat.{_+_, _-_, _≤_, _<_}
-use mathlib.Core.Path.{_≡_, refl, sym, ap, _∙_}
+use Prim.Native.Nat.{_-_, _≤_}
+use mathlib.Core.Path.{_≡_, refl, ap}
 use native.Mathlib.Omega.{arith}
 use lib.ListN.{getD, replicate}
+use borrow.Author.Needs.{needs}
+use Rattle.judge.specs.declared.line.Line.{Line}
 use Rattle.grids.specs.Rows.{rowsRoom}
 use Rattle.grids.proofs.FillLaws.{Putting, putting-start, putting-more, putting-end}
 use Rattle.grids.proofs.RowsLaws.{big-copied}
-use Rattle.judge.specs.declared.line.Line.{Line}
-use borrow.Author.Needs.{needs}
 use Rattle.grids.proofs.rows.rows_with.Statement.{statement}
 use Rattle.grids.proofs.rows.rows_with.Tie as tie
 

@@ -1,8 +1,8 @@
 -- `grids::sum::add` meets its contract.
 -- Assumes nothing.
 use mathlib.Core.Path.{sym, _∙_}
-use Rattle.grids.specs.Sum.{addOf}
 use borrow.Author.Needs.{needs}
+use Rattle.grids.specs.Sum.{addOf}
 use Rattle.grids.proofs.sum.add.Statement.{statement}
 use Rattle.grids.proofs.sum.add.Tie as tie
 

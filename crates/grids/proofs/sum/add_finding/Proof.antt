@@ -1,7 +1,7 @@
 -- `grids::sum::add_finding` meets its contract.
 -- Assumes nothing.
-use Rattle.grids.specs.Sum.{addFinding}
 use borrow.Author.Needs.{needs}
+use Rattle.grids.specs.Sum.{addFinding}
 use Rattle.grids.proofs.sum.add_finding.Statement.{statement}
 use Rattle.grids.proofs.sum.add_finding.Tie as tie
 

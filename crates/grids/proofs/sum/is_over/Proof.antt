@@ -1,12 +1,11 @@
 -- `grids::sum::is_over` meets its contract.
 -- Assumes nothing.
+use Prim.Native.Nat.{_+_}
 use mathlib.Core.Path.{sym}
 use native.Mathlib.Omega.{arith}
 use borrow.Author.Tests.{lt-ltb}
 use Rattle.grids.specs.Sum.{mostInCell}
 use Rattle.grids.proofs.SumLaws.{over-rest}
-use Prim.Native.Nat.{_+_}
-use borrow.Author.Needs.{needs}
 use Rattle.grids.proofs.sum.is_over.Statement.{statement}
 use Rattle.grids.proofs.sum.is_over.Tie as tie
 

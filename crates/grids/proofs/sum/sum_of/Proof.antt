@@ -1,14 +1,14 @@
 -- `grids::sum::sum_of` meets its contract.
 -- Assumes nothing.
-use Prim.Native.Nat.{_+_, _-_, _≤_, _<_}
-use mathlib.Core.Path.{_≡_, refl, sym, ap, _∙_}
+use Prim.Native.Nat.{_-_, _≤_, _<_}
+use mathlib.Core.Path.{refl}
 use native.Mathlib.Omega.{arith}
+use borrow.Author.Needs.{needs}
 use Rattle.record.specs.Table.{fileCount}
 use Rattle.judge.specs.Broken.{groups}
 use Rattle.grids.specs.Sum.{cellAt, plus}
 use Rattle.grids.proofs.FillLaws.{Filling, fill-start, fill-cell, fill-row, fill-end}
 use Rattle.grids.proofs.SumLaws.{sumCell, fits-at}
-use borrow.Author.Needs.{needs}
 use Rattle.grids.proofs.sum.sum_of.Statement.{statement}
 use Rattle.grids.proofs.sum.sum_of.Tie as tie
 

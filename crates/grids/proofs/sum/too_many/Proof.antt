@@ -1,17 +1,17 @@
 -- `grids::sum::too_many` meets its contract.
 -- Assumes nothing.
-use Prim.Native.Nat.{_+_, _-_, _≤_, _<_}
-use mathlib.Core.Path.{_≡_, refl, sym, ap, _∙_}
-use native.Mathlib.Omega.{arith}
+use Prim.Native.Nat.{_-_, _≤_, _<_}
+use mathlib.Core.Path.{_≡_, sym, _∙_}
 use mathlib.Core.Bool.{false}
+use native.Mathlib.Omega.{arith}
+use borrow.Author.Tests.{ltb-true}
+use borrow.Author.Needs.{needs}
 use Rattle.laws.specs.Find.{any}
+use Rattle.laws.proofs.FindLaws.{any-start, any-next, any-end}
 use Rattle.record.specs.Table.{fileCount}
 use Rattle.judge.specs.Broken.{groups}
 use Rattle.grids.specs.Sum.{mostInCell, cellAt, tooMany}
-use Rattle.grids.proofs.SumLaws.{overAt}
-use Rattle.grids.proofs.SumLaws.{any-none-yet, any-not-here, any-to, over-is}
-use borrow.Author.Tests.{ltb-true}
-use borrow.Author.Needs.{needs}
+use Rattle.grids.proofs.SumLaws.{overAt, over-is}
 use Rattle.grids.proofs.sum.too_many.Statement.{statement}
 use Rattle.grids.proofs.sum.too_many.Tie as tie
 
@@ -28,10 +28,10 @@ abbrev μ-loop : tie.MeasureT-loop
 μ-loop a b i₀ i = fileCount - i
 
 loop-holds : tie.Need-loop-holds Inv-loop2 μ-loop2 Inv-loop μ-loop
-loop-holds c = (omega arith, any-none-yet _)
+loop-holds c = (omega arith, any-start _)
 
 loop2-holds : tie.Need-loop2-holds Inv-loop2 μ-loop2 Inv-loop μ-loop
-loop2-holds c = (omega (arith, c .loop-test .taken), omega arith, any-none-yet _)
+loop2-holds c = (omega (arith, c .loop-test .taken), omega arith, any-start _)
 
 mul-is-over : tie.Need-mul-is-over Inv-loop2 μ-loop2 Inv-loop μ-loop
 mul-is-over c = search needs
@@ -79,7 +79,7 @@ unfolding cellAt
 loop2-again c =
     let t = c .before .before .before .before in
     let l = t .before .loop2 in
-    (l .inv .0, omega (arith, t .loop2-test .taken), any-not-here _ (l .inv .2) (sym (c .before .is-over .ensures) ∙ c .if1 .left))
+    (l .inv .0, omega (arith, t .loop2-test .taken), any-next _ (l .inv .2) (sym (c .before .is-over .ensures) ∙ c .if1 .left))
 
 add-i : tie.Need-add-i Inv-loop2 μ-loop2 Inv-loop μ-loop
 add-i c = search needs
@@ -91,11 +91,11 @@ loop-again : tie.Need-loop-again Inv-loop2 μ-loop2 Inv-loop μ-loop
 loop-again c =
     let l = c .before .loop2 in
     let o = c .before .before .before .loop in
-    (omega (arith, l .inv .0), any-not-here _ (o .inv .1) (any-to _ (l .inv .1) (c .loop2-test .left) (l .inv .2)))
+    (omega (arith, l .inv .0), any-next _ (o .inv .1) (any-end _ (l .inv .1) (c .loop2-test .left) (l .inv .2)))
 
 returns-2 : tie.Need-returns-2 Inv-loop2 μ-loop2 Inv-loop μ-loop
 unfolding tooMany
-returns-2 c = let l = c .before .loop in sym (any-to _ (l .inv .0) (c .loop-test .left) (l .inv .1))
+returns-2 c = let l = c .before .loop in sym (any-end _ (l .inv .0) (c .loop-test .left) (l .inv .1))
 
 pub too-many-spec : {M : Type 1} → statement M
 too-many-spec =

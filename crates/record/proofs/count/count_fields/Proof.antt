@@ -2,15 +2,14 @@
 -- Assumes nothing.
 use Prim.Native.Nat.{_≤_, _-_, _*_}
 use mathlib.Core.Path.{_≡_, refl}
-use borrow.Author.Needs.{needs}
 use native.Mathlib.Omega.{arith}
+use borrow.Author.Needs.{needs}
 use Rattle.laws.specs.Count.{sumOf}
-use Rattle.laws.proofs.SumLaws.{sum-more}
+use Rattle.laws.proofs.SumLaws.{sum-more, sum-end}
 use Rattle.record.specs.Table.{limit}
 use Rattle.record.specs.Cut.{recordOf}
 use Rattle.record.specs.Says.{tableOf}
 use Rattle.record.specs.machinery.Counts.{recordMany, fieldsMany}
-use Rattle.record.proofs.CountingLaws.{sum-end}
 use Rattle.record.proofs.count.count_fields.Statement.{statement}
 use Rattle.record.proofs.count.count_fields.Tie as tie
 

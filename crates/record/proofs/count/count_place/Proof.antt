@@ -1,9 +1,7 @@
 -- `record::count::count_place` meets its contract.
 -- Assumes nothing.
-use mathlib.Core.Path.{_≡_, _∙_}
-use native.Mathlib.Omega.{arith}
+use mathlib.Core.Path.{_∙_}
 use borrow.Author.Needs.{needs}
-use lib.ListN.{length}
 use Rattle.record.specs.machinery.Counts.{placeMany}
 use Rattle.record.proofs.count.count_place.Statement.{statement}
 use Rattle.record.proofs.count.count_place.Tie as tie

@@ -1,16 +1,16 @@
 -- `record::count::count_record` meets its contract. The loop's invariant: the first `f` places have `many` breaks.
 -- Assumes nothing.
 use Prim.Native.Nat.{_≤_, _+_, _-_, _*_}
-use mathlib.Core.Path.{_≡_, refl, sym, _∙_}
-use borrow.Author.Needs.{needs}
+use mathlib.Core.Path.{_≡_, refl}
 use native.Mathlib.Omega.{arith}
 use denote.Ref.{now}
+use borrow.Author.Needs.{needs}
 use Rattle.laws.specs.Count.{sumOf}
-use Rattle.laws.proofs.SumLaws.{sum-more}
+use Rattle.laws.proofs.SumLaws.{sum-more, sum-end}
 use Rattle.record.specs.Table.{fieldsOf}
 use Rattle.record.specs.machinery.Counts.{placeMany, recordMany}
 use Rattle.record.proofs.TableLaws.{sane}
-use Rattle.record.proofs.CountingLaws.{fine-many, sum-end}
+use Rattle.record.proofs.CountingLaws.{fine-many}
 use Rattle.record.proofs.count.count_record.Statement.{statement}
 use Rattle.record.proofs.count.count_record.Tie as tie
 

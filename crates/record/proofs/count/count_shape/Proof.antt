@@ -1,6 +1,5 @@
 -- `record::count::count_shape` meets its contract.
 -- Assumes nothing.
-use mathlib.Core.Path.{_≡_, sym, _∙_}
 use native.Mathlib.Omega.{arith}
 use borrow.Author.Needs.{needs}
 use Rattle.record.specs.Rules.{breaks10, breaks11}

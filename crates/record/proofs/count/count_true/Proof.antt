@@ -4,11 +4,10 @@ use Prim.Native.Nat.{_-_, _≤_}
 use mathlib.Core.Bool.{false}
 use mathlib.Core.Path.{_≡_, refl}
 use native.Mathlib.Omega.{arith}
-use borrow.Author.Needs.{needs}
 use lib.ListN.{length, getD}
+use borrow.Author.Needs.{needs}
 use Rattle.laws.specs.Count.{howMany}
-use Rattle.laws.proofs.CountLaws.{count-more}
-use Rattle.record.proofs.CountingLaws.{count-end}
+use Rattle.laws.proofs.CountLaws.{count-more, count-end}
 use Rattle.record.proofs.count.count_true.Statement.{statement}
 use Rattle.record.proofs.count.count_true.Tie as tie
 
