@@ -29,7 +29,7 @@ use Rattle.index.specs.declared.way.Way.{Way}
 use Rattle.index.proofs.OrderLaws.{same-or}
 use Rattle.index.proofs.WayLaws.{look-hinted}
 use Rattle.record.specs.machinery.Columns.{Fills}
-use Rattle.topology.proofs.LentLaws.{one-record}
+use Rattle.topology.proofs.LentLaws.{one-record, names-lent}
 use Rattle.topology.specs.machinery.Used.{foundBelow, putAt, freeAt, Used, Free, Unheld}
 
 -- A LOOK-UP that finds a record has its key, whatever the table says
@@ -186,6 +186,13 @@ module _ {ids order hints : List ℕ} {t : Bool} {n : ℕ} (key : ℕ → ℕ) w
       {before used : List ℕ} {i m : ℕ} (c : ℕ) → i ≤ m → m ≤ i → m ≡ c → Used ids order hints t n before used (names key i)
       → Used ids order hints t n before used (names key c)
   used-end {i = i} c l le e u = let q : i ≡ c = omega arith in rw q at u
+
+-- names in an array are those of the column that fills it
+pub used-filled :
+    {ids order hints : List ℕ} {t : Bool} {n : ℕ} {a b refs : List ℕ} {key : ℕ → ℕ} {c m : ℕ} → Fills refs key c m
+    → Used ids order hints t n a b (names (listed refs) m) → Used ids order hints t n a b (names key c)
+used-filled {a = a} f u =
+    record { long = u .long; marked = λ x r found. u .marked x r found ∙ ap (λ (q : Bool). eqb (getD a r 0) 0 && not q) (names-lent f x) }
 
 -- ONE FILE'S NAMES after another's: what either names
 neither : (z p q : Bool) → ((z && not p) && not q) ≡ (z && not (p || q))

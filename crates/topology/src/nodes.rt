@@ -74,14 +74,15 @@ pub(crate) fn mark_idle_objects<'a, 'b>(
     hints: &'b [u16],
     way: Way,
     n: usize,
+    refs: &mut [u64],
     used: &mut [u8],
     marks: &mut [u8],
 )
-    requires { ⌜ Ready (now ids) (now order) (now hints) n way × Fills (now ids) (λ j. nameAt Kind.ObLin (tableOf (now «ob_lin») Kind.ObLin) j 1) (tableOf (now «ob_lin») Kind.ObLin .count) n × (n ≤ length (now used)) × (n ≤ length (now marks)) ⌝ }
+    requires { ⌜ Ready (now ids) (now order) (now hints) n way × Fills (now ids) (λ j. nameAt Kind.ObLin (tableOf (now «ob_lin») Kind.ObLin) j 1) (tableOf (now «ob_lin») Kind.ObLin .count) n × (n ≤ length (now used)) × (n ≤ length (now marks)) × (tableOf (now tramo) Kind.Tramo .count ≤ length (now refs)) ⌝ }
     ensures { λ _. ⌜ Marked (now (marks .entry)) (now (marks .exit)) (objectIdle (tableOf (now («ob_lin» .entry)) Kind.ObLin) (tableOf (now (tramo .entry)) Kind.Tramo)) (tableOf (now («ob_lin» .entry)) Kind.ObLin .count) ⌝ }
 {
     clear(used, n);
-    mark_used(tramo, Kind::Tramo, 2, ids, order, hints, way, n, used);
+    mark_used(tramo, Kind::Tramo, 2, ids, order, hints, way, n, refs, used);
     mark_unheld(ids, order, hints, way, n, used, marks);
 }
 
@@ -94,16 +95,29 @@ fn mark_unnamed<'a, 'b>(
     hints: &'b [u16],
     way: Way,
     n: usize,
+    most: usize,
+    refs: &mut [u64],
     used: &mut [u8],
     marks: &mut [u8],
 )
-    requires { ⌜ Ready (now ids) (now order) (now hints) n way × (n ≤ length (now used)) × (n ≤ length (now marks)) ⌝ }
+    requires { ⌜ Ready (now ids) (now order) (now hints) n way × (n ≤ length (now used)) × (n ≤ length (now marks)) × (tableOf (now «ob_pun») Kind.ObPun .count ≤ most) × (tableOf (now tramo) Kind.Tramo .count ≤ most) × (most ≤ length (now refs)) ⌝ }
     ensures { λ _. ⌜ Marked (now (marks .entry)) (now (marks .exit)) (λ i. not (isNamed (tableOf (now («ob_pun» .entry)) Kind.ObPun) (tableOf (now (tramo .entry)) Kind.Tramo) (getD (now (ids .entry)) i 0))) n ⌝ }
 {
     clear(used, n);
-    mark_used(tramo, Kind::Tramo, 6, ids, order, hints, way, n, used);
-    mark_used(tramo, Kind::Tramo, 7, ids, order, hints, way, n, used);
-    mark_used(ob_pun, Kind::ObPun, 3, ids, order, hints, way, n, used);
+    mark_used(tramo, Kind::Tramo, 6, ids, order, hints, way, n, refs, used);
+    mark_used(tramo, Kind::Tramo, 7, ids, order, hints, way, n, refs, used);
+    mark_used(
+        ob_pun,
+        Kind::ObPun,
+        3,
+        ids,
+        order,
+        hints,
+        way,
+        n,
+        refs,
+        used,
+    );
     mark_unheld(ids, order, hints, way, n, used, marks);
 }
 
@@ -249,10 +263,22 @@ pub(crate) fn mark_idle_nodes<'a, 'b>(
     pair_order: &mut [usize],
     marks: &mut [u8],
 )
-    requires { ⌜ Ready (now ids) (now order) (now hints) n way × Fills (now ids) (λ j. nameAt Kind.Nodo (tableOf (now nodo) Kind.Nodo) j 1) (tableOf (now nodo) Kind.Nodo .count) n × (n ≤ length (now used)) × (n ≤ length (now marks)) × (tableOf (now vertice) Kind.Vertice .count ≤ most) × (most ≤ length (now xs)) × (most ≤ length (now ys)) × (most ≤ length (now «x_order»)) × (most ≤ length (now pairs)) × (most ≤ length (now «pair_order»)) ⌝ }
+    requires { ⌜ Ready (now ids) (now order) (now hints) n way × Fills (now ids) (λ j. nameAt Kind.Nodo (tableOf (now nodo) Kind.Nodo) j 1) (tableOf (now nodo) Kind.Nodo .count) n × (n ≤ length (now used)) × (n ≤ length (now marks)) × (tableOf (now «ob_pun») Kind.ObPun .count ≤ most) × (tableOf (now tramo) Kind.Tramo .count ≤ most) × (tableOf (now vertice) Kind.Vertice .count ≤ most) × (most ≤ length (now xs)) × (most ≤ length (now ys)) × (most ≤ length (now «x_order»)) × (most ≤ length (now pairs)) × (most ≤ length (now «pair_order»)) ⌝ }
     ensures { λ _. ⌜ Marked (now (marks .entry)) (now (marks .exit)) (λ i. not (nodeUsed (tableOf (now («ob_pun» .entry)) Kind.ObPun) (tableOf (now (tramo .entry)) Kind.Tramo) (tableOf (now (vertice .entry)) Kind.Vertice) (tableOf (now (nodo .entry)) Kind.Nodo) i)) (tableOf (now (nodo .entry)) Kind.Nodo .count) ⌝ }
 {
-    mark_unnamed(ob_pun, tramo, ids, order, hints, way, n, used, marks);
+    mark_unnamed(
+        ob_pun,
+        tramo,
+        ids,
+        order,
+        hints,
+        way,
+        n,
+        most,
+        xs,
+        used,
+        marks,
+    );
     let first = first_marked(marks, n);
     let Found::At(_) = first else {
         return;

@@ -1,51 +1,51 @@
 -- `topology::ends::mark_apart` meets its contract. The loop's invariant: the marks of the tramos before `i` say whether the end lies elsewhere than its node.
 -- Assumes nothing.
 use Prim.Native.Nat.{_-_}
-use mathlib.Core.Path.{sym, ap, _∙_}
+use mathlib.Core.Path.{refl, ap, _∙_}
+use lib.ListN.{getD}
 use native.Mathlib.Omega.{arith}
 use Rattle.laws.specs.Count.{bit}
 use Rattle.index.specs.Marks.{Marked}
 use Rattle.index.proofs.MarkLaws.{marked-start, marked-more, marked-end}
-use Rattle.record.specs.declared.kind.Kind.the-variants.{Tramo, Vertice, Nodo}
+use Rattle.record.specs.declared.kind.Kind.the-variants.{Vertice, Nodo}
 use Rattle.record.specs.Says.{tableOf}
-use Rattle.topology.specs.machinery.Ends.{apart}
-use Rattle.topology.proofs.EndLaws.{line-narrow, apart-said}
+use Rattle.topology.specs.machinery.Ends.{apartAt}
 use borrow.Author.Needs.{needs}
 use Rattle.topology.proofs.ends.mark_apart.Statement.{statement}
 use Rattle.topology.proofs.ends.mark_apart.Tie as tie
 
 abbrev Inv-loop : tie.InvT-loop
-Inv-loop end tramo vertice keys order vertices way n vx vy lines line-order line-hints line-way tops nodo ids ranks nodes by m nx ny marks₀ t i₀ marks i = Marked marks₀ marks (apart end (tableOf tramo Tramo) (tableOf vertice Vertice) (tableOf nodo Nodo)) i
+Inv-loop end ends wanted t vertice keys order vertices way n vx vy nodo ids ranks nodes by m nx ny marks₀ i₀ marks i =
+    Marked marks₀ marks (λ j. apartAt end (tableOf vertice Vertice) (tableOf nodo Nodo) (getD ends j 0) (getD wanted j 0)) i
 
 abbrev μ-loop : tie.MeasureT-loop
-μ-loop end tramo vertice keys order vertices way n vx vy lines line-order line-hints line-way tops nodo ids ranks nodes by m nx ny marks₀ t i₀ marks i = t - i
-
-rows-requires : tie.Need-rows-requires Inv-loop μ-loop
-rows-requires c κs = search needs
+μ-loop end ends wanted t vertice keys order vertices way n vx vy nodo ids ranks nodes by m nx ny marks₀ i₀ marks i = t - i
 
 loop-holds : tie.Need-loop-holds Inv-loop μ-loop
 loop-holds c = marked-start _ _
 
-name-requires : tie.Need-name-requires Inv-loop μ-loop
-name-requires c κs = search needs
+mul-is-apart : tie.Need-mul-is-apart Inv-loop μ-loop
+mul-is-apart c = omega (arith, c .before .before .before .before .before .before .before .before .before .before .before .before .before .before .before .before .before .pre .6)
 
-key-requires : tie.Need-key-requires Inv-loop μ-loop
-key-requires c κs = (c .before .before .before .before .before .before .before .before .before .before .before .before .before .before .before .before .before .before .before .before .before .before .pre .0, line-narrow (c .name .ensures .1))
+shared-slice-read-is-apart : tie.Need-shared-slice-read-is-apart Inv-loop μ-loop
+shared-slice-read-is-apart c = omega (arith, c .before .before .before .before .before .before .before .before .before .before .before .before .before .before .before .before .before .before .pre .6)
 
-field-requires : tie.Need-field-requires Inv-loop μ-loop
-field-requires c κs = search needs
+mul-is-apart-2 : tie.Need-mul-is-apart-2 Inv-loop μ-loop
+mul-is-apart-2 c = omega (arith, c .before .before .before .before .before .before .before .before .before .before .before .before .before .before .before .before .before .before .pre .7)
 
-name-requires-2 : tie.Need-name-requires-2 Inv-loop μ-loop
-name-requires-2 c κs = search needs
+shared-slice-read-is-apart-2 : tie.Need-shared-slice-read-is-apart-2 Inv-loop μ-loop
+shared-slice-read-is-apart-2 c = omega (arith, c .before .before .before .before .before .before .before .before .before .before .before .before .before .before .before .before .before .before .before .pre .7)
 
-is-elsewhere-requires : tie.Need-is-elsewhere-requires Inv-loop μ-loop
-is-elsewhere-requires c κs = (c .before .before .before .before .before .before .before .before .before .before .before .before .before .before .before .before .before .before .before .before .before .before .before .before .before .pre .1, c .before .before .before .before .before .before .before .before .before .before .before .before .before .before .before .before .before .before .before .before .before .before .before .before .before .pre .2, c .before .before .before .before .before .before .before .before .before .before .before .before .before .before .before .before .before .before .before .before .before .before .before .before .before .pre .3, c .before .before .before .before .before .before .before .before .before .before .before .before .before .before .before .before .before .before .before .before .before .before .before .before .before .pre .4, c .before .before .before .before .before .before .before .before .before .before .before .before .before .before .before .before .before .before .before .before .before .before .before .before .before .pre .6, c .before .before .before .before .before .before .before .before .before .before .before .before .before .before .before .before .before .before .before .before .before .before .before .before .before .pre .7)
+is-apart-requires : tie.Need-is-apart-requires Inv-loop μ-loop
+is-apart-requires c κs =
+    let p = c .before .before .before .before .before .before .before .before .before .before .before .before .before .before .before .before .before .before .before .pre in
+    (p .0, p .1, p .2, p .3, p .4, p .5)
 
 as-mark-requires : tie.Need-as-mark-requires Inv-loop μ-loop
 as-mark-requires c κs = search needs
 
 slice-write-marks : tie.Need-slice-write-marks Inv-loop μ-loop
-slice-write-marks c = omega (arith, c .before .before .before .before .before .before .before .loop .inv .long, c .before .before .before .before .before .before .before .before .before .before .before .before .before .before .before .before .before .before .before .before .before .before .before .before .before .before .before .pre .5, c .before .before .before .before .before .before .before .before .rows .ensures .0)
+slice-write-marks c = omega (arith, c .before .before .before .before .before .loop .inv .long, c .before .before .before .before .before .before .before .before .before .before .before .before .before .before .before .before .before .before .before .before .before .pre .8)
 
 add-i : tie.Need-add-i Inv-loop μ-loop
 add-i c = search needs
@@ -54,13 +54,13 @@ loop-less : tie.Need-loop-less Inv-loop μ-loop
 loop-less c = search needs
 
 loop-again : tie.Need-loop-again Inv-loop μ-loop
-loop-again c = marked-more (omega (arith, c .before .before .before .before .before .before .before .loop .inv .long, c .before .before .before .before .before .before .before .before .before .before .before .before .before .before .before .before .before .before .before .before .before .before .before .before .before .before .before .pre .5, c .before .before .before .before .before .before .before .before .rows .ensures .0)) (c .as-mark .ensures ∙ ap bit (sym (apart-said (c .before .before .before .before .before .before .before .before .before .before .before .before .before .before .before .before .before .before .before .before .before .before .before .before .before .before .before .args .end) _ _ _ (c .before .before .before .before .before .before .before .before .before .before .before .before .before .before .before .before .before .before .before .before .before .before .before .before .before .before .before .pre .2) _ (c .before .before .before .before .before .name .ensures .0) (c .before .before .before .before .key .ensures) (c .before .before .before .field .ensures .0) (c .before .before .name2 .ensures .0) (c .before .is-elsewhere .ensures)))) (c .before .before .before .before .before .before .before .loop .inv)
+loop-again c = marked-more (omega (arith, c .before .before .before .before .before .loop .inv .long, c .before .before .before .before .before .before .before .before .before .before .before .before .before .before .before .before .before .before .before .before .before .pre .8)) (c .as-mark .ensures ∙ ap bit (c .before .is-apart .ensures)) (c .before .before .before .before .before .loop .inv)
 
 same-length : tie.Need-same-length Inv-loop μ-loop
 same-length c = c .before .loop .inv .long
 
 returns : tie.Need-returns Inv-loop μ-loop
-returns c = marked-end _ (c .before .before .rows .ensures .0) (c .loop-test .left) (c .before .loop .inv)
+returns c = marked-end _ refl (c .loop-test .left) (c .before .loop .inv)
 
 pub mark-apart-spec : {M : Type 1} → statement M
 mark-apart-spec =
@@ -68,13 +68,12 @@ mark-apart-spec =
     (tie.spec
     Inv-loop
     μ-loop
-    rows-requires
     loop-holds
-    name-requires
-    key-requires
-    field-requires
-    name-requires-2
-    is-elsewhere-requires
+    mul-is-apart
+    shared-slice-read-is-apart
+    mul-is-apart-2
+    shared-slice-read-is-apart-2
+    is-apart-requires
     as-mark-requires
     slice-write-marks
     add-i

@@ -1,15 +1,18 @@
 -- `topology::nodes::mark_idle_nodes` meets its contract. Where no node is left unnamed none is idle; else those are that have the place of no vertex.
 -- Assumes nothing.
+use native.Mathlib.Omega.{arith}
 use Rattle.topology.proofs.IdleLaws.{idle-none, idle-left}
 use borrow.Author.Needs.{needs}
 use Rattle.topology.proofs.nodes.mark_idle_nodes.Statement.{statement}
 use Rattle.topology.proofs.nodes.mark_idle_nodes.Tie as tie
 
 mark-unnamed-requires : tie.Need-mark-unnamed-requires
-mark-unnamed-requires c κs = search needs
+mark-unnamed-requires c κs =
+    let p = c .before .before .before .before .before .before .before .before .before .before .before .before .before .before .before .before .before .before .before .pre in
+    (p .0, p .2, p .3, p .4, p .5, p .7)
 
 first-marked-requires : tie.Need-first-marked-requires
-first-marked-requires c κs = search needs
+first-marked-requires c κs = omega (arith, c .before .before .marks .given, c .before .before .before .before .before .before .before .before .before .before .before .before .before .before .before .before .before .before .before .before .before .before .before .before .before .before .before .pre .3)
 
 enum-told : tie.Need-enum-told
 enum-told c = search needs
@@ -23,14 +26,16 @@ same-length c = search needs
 same-length-2 : tie.Need-same-length-2
 same-length-2 c = search needs
 
-returns : tie.Need-returns
-returns c = idle-none _ _ _ _ (c .before .before .before .before .before .before .before .before .before .before .before .before .before .before .before .before .before .before .before .before .before .before .before .before .before .before .before .pre .1) (c .before .before .before .before .before .before .before .before .mark-unnamed .ensures) (c .before .before .first-marked .ensures) (c .enum-told2 .given .1)
-
-unmark-places-requires : tie.Need-unmark-places-requires
-unmark-places-requires c κs = search needs
-
 same-length-3 : tie.Need-same-length-3
 same-length-3 c = search needs
+
+returns : tie.Need-returns
+returns c = idle-none _ _ _ _ (c .before .before .before .before .before .before .before .before .before .before .before .before .before .before .before .before .before .before .before .before .before .before .before .before .before .before .before .before .before .before .pre .1) (c .before .before .before .before .before .before .before .before .before .before .mark-unnamed .ensures) (c .before .before .first-marked .ensures) (c .enum-told2 .given .1)
+
+unmark-places-requires : tie.Need-unmark-places-requires
+unmark-places-requires c κs =
+    let p = c .before .before .before .before .before .before .before .before .before .before .before .before .before .before .before .before .before .before .before .before .before .before .before .before .before .before .before .before .before .before .before .before .before .before .before .before .before .before .pre in
+    (p .6, omega (arith, c .before .before .before .before .before .before .before .before .before .before .before .before .before .before .before .before .before .xs .given, p .7), p .8, p .9, p .10, p .11, omega (arith, c .before .before .before .before .before .before .before .before .before .before .before .before .before .marks .given, p .3))
 
 same-length-4 : tie.Need-same-length-4
 same-length-4 c = search needs
@@ -56,8 +61,11 @@ same-length-10 c = search needs
 same-length-11 : tie.Need-same-length-11
 same-length-11 c = search needs
 
+same-length-12 : tie.Need-same-length-12
+same-length-12 c = search needs
+
 returns-2 : tie.Need-returns-2
-returns-2 c = idle-left _ _ _ _ (c .before .before .before .before .before .before .before .before .before .before .before .before .before .before .before .before .before .before .before .before .before .before .before .before .before .before .before .before .before .before .before .before .before .before .before .before .before .before .before .before .before .before .before .before .before .before .before .before .before .before .before .before .pre .1) (c .before .before .before .before .before .before .before .before .before .before .before .before .before .before .before .before .before .before .before .before .before .before .before .before .before .before .before .before .before .before .before .before .before .mark-unnamed .ensures) (c .before .before .before .before .before .before .before .before .before .before .before .before .before .before .before .before .unmark-places .ensures)
+returns-2 c = idle-left _ _ _ _ (c .before .before .before .before .before .before .before .before .before .before .before .before .before .before .before .before .before .before .before .before .before .before .before .before .before .before .before .before .before .before .before .before .before .before .before .before .before .before .before .before .before .before .before .before .before .before .before .before .before .before .before .before .before .before .before .pre .1) (c .before .before .before .before .before .before .before .before .before .before .before .before .before .before .before .before .before .before .before .before .before .before .before .before .before .before .before .before .before .before .before .before .before .before .before .mark-unnamed .ensures) (c .before .before .before .before .before .before .before .before .before .before .before .before .before .before .before .before .unmark-places .ensures)
 
 pub mark-idle-nodes-spec : {M : Type 1} → statement M
 mark-idle-nodes-spec =
@@ -69,9 +77,9 @@ mark-idle-nodes-spec =
     enum-told-2
     same-length
     same-length-2
+    same-length-3
     returns
     unmark-places-requires
-    same-length-3
     same-length-4
     same-length-5
     same-length-6
@@ -80,4 +88,5 @@ mark-idle-nodes-spec =
     same-length-9
     same-length-10
     same-length-11
+    same-length-12
     returns-2)
