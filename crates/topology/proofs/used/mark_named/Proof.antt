@@ -6,7 +6,8 @@ use native.Mathlib.Omega.{arith}
 use Rattle.laws.specs.Find.{names}
 use Rattle.index.specs.Keys.{listed}
 use Rattle.topology.specs.machinery.Used.{Used}
-use Rattle.topology.proofs.UsedLaws.{sought-below, used-start, used-more, used-end}
+use Rattle.index.proofs.LookLaws.{sought-below}
+use Rattle.topology.proofs.UsedLaws.{used-start, used-more, used-end}
 use borrow.Author.Needs.{needs}
 use Rattle.topology.proofs.used.mark_named.Statement.{statement}
 use Rattle.topology.proofs.used.mark_named.Tie as tie
