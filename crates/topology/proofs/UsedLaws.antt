@@ -19,7 +19,7 @@ use Rattle.laws.specs.Count.{bit}
 use Rattle.laws.proofs.FindLaws.{true-false, any-more}
 use Rattle.laws.proofs.RowLaws.{and-true}
 use Rattle.index.specs.Keys.{listed, firstDuplicate}
-use Rattle.index.specs.Look.{Sought}
+use Rattle.index.specs.Look.{Sought, foundBelow}
 use Rattle.index.specs.Hint.{slotOf, pointed, guessOf}
 use Rattle.index.specs.Way.{uptoOf, lastAt, keyed, findOf, isFound, Complete, lookOf, Ready}
 use Rattle.index.specs.Marks.{Marked}
