@@ -55,70 +55,88 @@ module _ {keys order hints : List ℕ} {t : Bool} {n : ℕ} where
             (rw (getD-set-same out i x 0 fits, v) (numbered keys order hints t n i f l s q));
       }
 
+  -- two are equal exactly where their keys are
+  pub numbered-same :
+      {a b x y : ℕ} → Numbered keys order hints t n a x → Numbered keys order hints t n b y → eqb x y ≡ eqb (getD keys a 0) (getD keys b 0)
+  numbered-same {a} {b} {x} {y} p q = ⊎-elim equal other (same-or (getD keys a 0) (getD keys b 0))
+    where
+      equal : getD keys a 0 ≡ getD keys b 0 → eqb x y ≡ eqb (getD keys a 0) (getD keys b 0)
+      equal e =
+          let f : At x ≡ At y = sym (p .found) ∙ ap (lookOf keys order hints t n) e ∙ q .found in
+          eq-eqb _ _ (ap orZero f) ∙ sym (eq-eqb _ _ e)
+
+      other : (getD keys a 0 ≡ getD keys b 0 → ⊥) → eqb x y ≡ eqb (getD keys a 0) (getD keys b 0)
+      other d = ne-eqb _ _ (λ e. d (sym (p .own) ∙ ap (λ (r : ℕ). getD keys r 0) e ∙ q .own)) ∙ sym (ne-eqb _ _ d)
+
   -- then they stand for the keys
   pub numbers-stand : {out : List ℕ} {i : ℕ} → n ≤ i → Numbers keys order hints t n out i → Stands keys out n
   numbers-stand {out} {i} le all =
       record {
         within = λ e l. all .each e (omega arith) .within;
-        same = λ a b la lb. ⊎-elim (equal a b (omega arith) (omega arith)) (other a b (omega arith) (omega arith)) (same-or (getD keys a 0) (getD keys b 0));
+        same = λ a b la lb. numbered-same (all .each a (omega arith)) (all .each b (omega arith));
       }
-    where
-      equal : (a b : ℕ) → a < i → b < i → getD keys a 0 ≡ getD keys b 0 → eqb (getD out a 0) (getD out b 0) ≡ eqb (getD keys a 0) (getD keys b 0)
-      equal a b la lb e =
-          let f : At (getD out a 0) ≡ At (getD out b 0) = sym (all .each a la .found) ∙ ap (lookOf keys order hints t n) e ∙ all .each b lb .found in
-          eq-eqb _ _ (ap orZero f) ∙ sym (eq-eqb _ _ e)
 
-      other : (a b : ℕ) → a < i → b < i → (getD keys a 0 ≡ getD keys b 0 → ⊥) → eqb (getD out a 0) (getD out b 0) ≡ eqb (getD keys a 0) (getD keys b 0)
-      other a b la lb d =
-          ne-eqb _ _ (λ e. d (sym (all .each a la .own) ∙ ap (λ (r : ℕ). getD keys r 0) e ∙ all .each b lb .own)) ∙ sym (ne-eqb _ _ d)
+-- KEYS THAT OCCUR TWICE. The number of key e, which is kept nowhere: a loop has those of the first i at hand, as marks
+abbrev numberOf : List ℕ → List ℕ → List ℕ → Bool → ℕ → ℕ → ℕ
+numberOf keys order hints t n e = orZero (lookOf keys order hints t n (getD keys e 0))
 
--- SEEN: the numbers among the first i
-unfoldable pub Seen : List ℕ → List ℕ → ℕ → Type 0
-Seen numbers seen i = (length seen ≡ room) × ((x : ℕ) → x < room → getD seen x 0 ≡ bit (names (listed numbers) i x))
+pub record Seen (keys order hints : List ℕ) (t : Bool) (n : ℕ) (seen : List ℕ) (i : ℕ) : Type 0 where
+  pub each : (e : ℕ) → e < i → Numbered keys order hints t n e (numberOf keys order hints t n e)
+  pub long : length seen ≡ room
+  pub at : (x : ℕ) → x < room → getD seen x 0 ≡ bit (names (numberOf keys order hints t n) i x)
 
-pub seen-more : (numbers seen : List ℕ) (i : ℕ) → getD numbers i 0 < room → Seen numbers seen i → Seen numbers (set seen (getD numbers i 0) 1) (i + 1)
-unfolding Seen
-seen-more numbers seen i l s = (length-set seen (getD numbers i 0) 1 ∙ s .0, λ x lx. ⊎-elim (here x lx) (there x lx) (same-or (getD numbers i 0) x))
-  where
-    test : ℕ → ℕ → Bool
-    test x k = eqb (getD numbers k 0) x
+or-true : (t : Bool) → (t || true) ≡ true
+or-true true = refl
+or-true false = refl
 
-    or-true : (t : Bool) → (t || true) ≡ true
-    or-true true = refl
-    or-true false = refl
+or-false : (t : Bool) → (t || false) ≡ t
+or-false true = refl
+or-false false = refl
 
-    or-false : (t : Bool) → (t || false) ≡ t
-    or-false true = refl
-    or-false false = refl
+module _ (keys order hints : List ℕ) (t : Bool) (n : ℕ) where
+  abbrev number : ℕ → ℕ
+  number e = numberOf keys order hints t n e
 
-    here : (x : ℕ) → x < room → getD numbers i 0 ≡ x → getD (set seen (getD numbers i 0) 1) x 0 ≡ bit (names (listed numbers) (i + 1) x)
-    here x lx e =
-        ap (λ (y : ℕ). getD (set seen (getD numbers i 0) 1) y 0) (sym e)
-        ∙ getD-set-same seen (getD numbers i 0) 1 0 (omega (arith, s .0))
-        ∙ sym (ap bit (any-more (test x) i ∙ ap (λ (b : Bool). any (test x) i || b) (eq-eqb _ _ e) ∙ or-true (any (test x) i)))
+  pub seen-start : Seen keys order hints t n (replicate room 0) 0
+  unfolding any
+  seen-start = record { each = below-none _; long = length-replicate {A = ℕ} room 0; at = λ x l. getD-replicate room x 0 0 l }
 
-    there : (x : ℕ) → x < room → (getD numbers i 0 ≡ x → ⊥) → getD (set seen (getD numbers i 0) 1) x 0 ≡ bit (names (listed numbers) (i + 1) x)
-    there x lx d =
-        getD-set-other seen (getD numbers i 0) x 1 0 (λ e. d (sym e))
-        ∙ s .1 x lx
-        ∙ sym (ap bit (any-more (test x) i ∙ ap (λ (b : Bool). any (test x) i || b) (ne-eqb _ _ d) ∙ or-false (any (test x) i)))
+  module _ {i : ℕ} (l : i < n) (small : n ≤ room) (f : Found) (s : Sought keys n (getD keys i 0) f) (q : f ≡ lookOf keys order hints t n (getD keys i 0)) {x : ℕ} (v : x ≡ orZero f) where
+    own : Numbered keys order hints t n i x
+    own = rw v (numbered keys order hints t n i f l s q)
 
-pub seen-start : (numbers : List ℕ) → Seen numbers (replicate room 0) 0
-unfolding Seen any
-seen-start numbers = (length-replicate {A = ℕ} room 0, λ x l. getD-replicate room x 0 0 l)
+    is-number : x ≡ number i
+    is-number = v ∙ ap orZero q
 
--- what is there already is seen
-pub seen-at : (numbers seen : List ℕ) (i : ℕ) → getD numbers i 0 < room → Seen numbers seen i → getD seen (getD numbers i 0) 0 ≡ bit (names (listed numbers) i (getD numbers i 0))
-unfolding Seen
-seen-at numbers seen i l s = s .1 (getD numbers i 0) l
+    pub seen-within : x < room
+    seen-within = omega (arith, own .within, small)
 
--- KEYS THAT OCCUR TWICE: by their numbers,
-pub repeats-stand :
-    {before marks keys numbers : List ℕ} {n : ℕ} → Stands keys numbers n → Marked before marks (λ i. names (listed numbers) i (getD numbers i 0)) n
-    → Marked before marks (λ i. names (listed keys) i (getD keys i 0)) n
-repeats-stand s m = marked-as (λ i l. any-same _ _ i (λ k lk. s .same k i (omega arith) l)) m
+    module _ {seen : List ℕ} (h : Seen keys order hints t n seen i) where
+      -- the key is an earlier one's where its number is
+      pub seen-at : getD seen x 0 ≡ bit (names (listed keys) i (getD keys i 0))
+      seen-at = h .at x seen-within ∙ ap bit (any-same _ _ i (λ k lk. numbered-same (h .each k lk) own))
 
--- or none, where they are apart
+      here : (y : ℕ) → x ≡ y → getD (set seen x 1) y 0 ≡ bit (names number (i + 1) y)
+      here y e =
+          ap (λ (z : ℕ). getD (set seen x 1) z 0) (sym e)
+          ∙ getD-set-same seen x 1 0 (omega (arith, h .long, seen-within))
+          ∙ sym (ap bit (any-more (λ k. eqb (number k) y) i ∙ ap (λ (b : Bool). names number i y || b) (eq-eqb _ _ (sym is-number ∙ e)) ∙ or-true (names number i y)))
+
+      there : (y : ℕ) → y < room → (x ≡ y → ⊥) → getD (set seen x 1) y 0 ≡ bit (names number (i + 1) y)
+      there y ly d =
+          getD-set-other seen x y 1 0 (λ e. d (sym e))
+          ∙ h .at y ly
+          ∙ sym (ap bit (any-more (λ k. eqb (number k) y) i ∙ ap (λ (b : Bool). names number i y || b) (ne-eqb _ _ (λ e. d (is-number ∙ e))) ∙ or-false (names number i y)))
+
+      pub seen-more : Seen keys order hints t n (set seen x 1) (i + 1)
+      seen-more =
+          record {
+            each = below-more (λ (e : ℕ). Numbered keys order hints t n e (number e)) i (h .each) (rw (← is-number) own);
+            long = length-set seen x 1 ∙ h .long;
+            at = λ y ly. ⊎-elim (here y) (there y ly) (same-or x y);
+          }
+
+-- None does, where they are apart
 pub repeats-none :
     {before marks : List ℕ} (keys : List ℕ) {n : ℕ} → firstDuplicate (listed keys) n ≡ none → Marked before marks (λ i. false) n
     → Marked before marks (λ i. names (listed keys) i (getD keys i 0)) n

@@ -1,14 +1,14 @@
-// Numbers that stand for keys, below 16,384 and one for each key; and by them the keys that occur twice.
+// Numbers that stand for keys, below 16,384 and one for each key; and by them the keys that occur twice, for which no number is kept.
 use crate::Found;
 use crate::ROOM;
 use crate::marks::clear;
 use crate::way::Way;
 use crate::way::look;
 ghost use mathlib.Core.Path.{_≡_};
-ghost use Prim.Native.Nat.{ℕ, _<_, _≤_};
+ghost use Prim.Native.Nat.{ℕ, _≤_};
 ghost use lib.ListN.{length, getD};
 ghost use Rattle.laws.specs.Find.{names};
-ghost use Rattle.index.specs.Keys.{listed, room};
+ghost use Rattle.index.specs.Keys.{listed};
 ghost use Rattle.index.specs.Marks.{Marked};
 ghost use Rattle.index.specs.Way.{Ready, Stands, orZero};
 
@@ -42,22 +42,30 @@ pub(crate) fn fill_numbers<'a>(
     }
 }
 
-// Marks each of the first `n` numbers that is an earlier one.
-fn mark_seen(numbers: &[u64], n: usize, marks: &mut [u8])
-    requires { ⌜ (n ≤ length (now numbers)) × (n ≤ length (now marks)) × ((i : ℕ) → i < n → getD (now numbers) i 0 < room) ⌝ }
-    ensures { λ _. ⌜ Marked (now (marks .entry)) (now (marks .exit)) (λ i. names (listed (now (numbers .entry))) i (getD (now (numbers .entry)) i 0)) n ⌝ }
+// Marks each of the first `n` records whose key is an earlier one's: the record that a look-up of the key finds was found before.
+fn mark_seen<'a>(
+    keys: &'a [u64],
+    order: &'a [usize],
+    hints: &'a [u16],
+    way: Way,
+    n: usize,
+    marks: &mut [u8],
+)
+    requires { ⌜ Ready (now keys) (now order) (now hints) n way × (n ≤ length (now marks)) ⌝ }
+    ensures { λ _. ⌜ Marked (now (marks .entry)) (now (marks .exit)) (λ i. names (listed (now (keys .entry))) i (getD (now (keys .entry)) i 0)) n ⌝ }
 {
     let mut seen = [0u8; ROOM];
     let mut i = 0;
     while i < n {
-        let x = numbers[i] as usize;
+        let found = look(keys, order, hints, way, n, keys[i]);
+        let x = or_zero(found) as usize;
         marks[i] = seen[x];
         seen[x] = 1;
         i += 1;
     }
 }
 
-// Marks each of the first `n` records whose key is an earlier one's.
+// The same, and at once where keys are known to differ.
 pub fn mark_repeats<'a>(
     keys: &'a [u64],
     order: &'a [usize],
@@ -73,7 +81,5 @@ pub fn mark_repeats<'a>(
         clear(marks, n);
         return;
     }
-    let mut numbers = [0u64; ROOM];
-    fill_numbers(keys, order, hints, way, n, &mut numbers);
-    mark_seen(&numbers, n, marks);
+    mark_seen(keys, order, hints, way, n, marks);
 }

@@ -22,7 +22,7 @@ use Rattle.record.specs.Table.{fileOf, kinds, limit}
 use Rattle.record.specs.Breaks.{breakOf}
 use Rattle.record.specs.Files.{Files, Delivery, deliveryOf}
 use Rattle.record.specs.Says.{tableOf}
-use Rattle.record.specs.Names.{keyOf}
+use Rattle.record.specs.Names.{nameAt, keyOf}
 use Rattle.record.specs.machinery.Columns.{Fills}
 use Rattle.record.proofs.TableLaws.{sane, kind-at}
 use Rattle.record.proofs.FileLaws.{inside}
@@ -30,12 +30,12 @@ use Rattle.keys.specs.machinery.Groups.{cellsOf}
 use Rattle.keys.specs.machinery.Cells.{TalliedTo}
 use Rattle.keys.proofs.CellLaws.{tally-row, tally-broken, tally-fine, tallied-start, tallied-marks, tallied-skip, tallied-end, tallied-most}
 use Rattle.topology.specs.machinery.Cells.{fiftyTally, fiftyTallies}
-use Rattle.topology.specs.machinery.Ends.{apart}
+use Rattle.topology.specs.machinery.Ends.{apartAt, apart, astrayAt}
+use Rattle.topology.specs.machinery.Places.{Positions}
 use Rattle.topology.specs.declared.ends.End.the-variants.{Start, Last}
-use Rattle.topology.specs.Rules.{gap, unpaired, highestIn, highest, tramoLine, placedBefore, pointElsewhere, nodeUsed, objectIdle, breaks50, breaks51, breaks52, breaks53, breaks54, breaks55, breaks56, breaks57, breaks59, fifties, fiftyReasons}
+use Rattle.topology.specs.Rules.{gap, unpaired, highestIn, highest, tramoLine, tramoStart, tramoEnd, placedBefore, pointElsewhere, nodeUsed, objectIdle, breaks50, breaks51, breaks52, breaks53, breaks54, breaks55, breaks56, breaks57, breaks59, fifties, fiftyReasons}
 use Rattle.topology.specs.machinery.Findings.{topologyIn}
-use Rattle.index.proofs.MarkLaws.{marked-as}
-use Rattle.topology.proofs.EndLaws.{endless-lent}
+use Rattle.topology.proofs.EndLaws.{endless-marks, apart-marks, astray-marks}
 use Rattle.topology.proofs.FiftyLaws.{Free, else-default, free-tests, free-vertice, free-tramo, free-nodo, free-ob-pun, free-ob-lin, free-catalogo, free-ob-tex}
 
 -- r is t and one cell more, by the marks of n records
@@ -153,31 +153,36 @@ module _ (files : Files) where
   abbrev del : Delivery
   del = deliveryOf files
 
-  pub endless-in :
-      {tramos : List ℕ} → tramos ≡ files Tramo → {t r : Tally} {keys before marks : List ℕ} {m n : ℕ} → n ≡ tableOf tramos Tramo .count → t ≡ noTally
-      → Fills keys (keyOf Vertice (del Vertice)) (del Vertice .count) m
-      → Marked before marks (λ i. eqb (highestIn (listed keys) (tramoLine (tableOf tramos Tramo) i) m) 0) (tableOf tramos Tramo .count) → Next t marks n 49 r
-      → TalliedTo (fifties del Tramo) (del Tramo .count) 50 r
-  endless-in e q z h m w = endless-tally del (q ∙ rw e refl) z (marked-as (λ i _. endless-lent h (tramoLine (del Tramo) i)) (rw e at m)) w
+  -- the tramos by their columns,
+  module _ {keys ends : List ℕ} {m n : ℕ} (lent : Fills keys (keyOf Vertice (del Vertice)) (del Vertice .count) m)
+      (tops : Fills ends (λ i. highestIn (listed keys) (tramoLine (del Tramo) i) m) (del Tramo .count) n) where
+    pub endless-in :
+        {t r : Tally} {before marks : List ℕ} → t ≡ noTally → Marked before marks (λ i. eqb (getD ends i 0) 0) n → Next t marks n 49 r
+        → TalliedTo (fifties del Tramo) (del Tramo .count) 50 r
+    endless-in z k w = endless-tally del (tops .count) z (endless-marks (del Tramo) (del Vertice) (del Nodo) lent tops k) w
 
-  module _ {tramos vertices nodes : List ℕ} (a : tramos ≡ files Tramo) (b : vertices ≡ files Vertice) (c : nodes ≡ files Nodo) where
-    pub starts-in :
-        {t r : Tally} {before marks : List ℕ} {n : ℕ} → n ≡ tableOf tramos Tramo .count → TalliedTo (fifties del Tramo) (del Tramo .count) 50 t
-        → Marked before marks (apart Start (tableOf tramos Tramo) (tableOf vertices Vertice) (tableOf nodes Nodo)) (tableOf tramos Tramo .count) → Next t marks n 62 r
-        → TalliedTo (fifties del Tramo) (del Tramo .count) 63 r
-    starts-in q z m w = starts-tally del (q ∙ rw a refl) z (rw (a, b, c) at m) w
+    module _ {vertices nodes : List ℕ} (a : vertices ≡ files Vertice) (b : nodes ≡ files Nodo) where
+      pub starts-in :
+          {t r : Tally} {wanted before marks : List ℕ} → Fills wanted (tramoStart (del Tramo)) (del Tramo .count) n → TalliedTo (fifties del Tramo) (del Tramo .count) 50 t
+          → Marked before marks (λ i. apartAt Start (tableOf vertices Vertice) (tableOf nodes Nodo) (getD ends i 0) (getD wanted i 0)) n → Next t marks n 62 r
+          → TalliedTo (fifties del Tramo) (del Tramo .count) 63 r
+      starts-in w z k s = starts-tally del (tops .count) z (apart-marks (del Tramo) (del Vertice) (del Nodo) lent tops Start w (rw (a, b) at k)) s
 
-    pub tramos-in :
-        {t r : Tally} {before marks : List ℕ} {n : ℕ} → n ≡ tableOf tramos Tramo .count → TalliedTo (fifties del Tramo) (del Tramo .count) 63 t
-        → Marked before marks (apart Last (tableOf tramos Tramo) (tableOf vertices Vertice) (tableOf nodes Nodo)) (tableOf tramos Tramo .count) → Next t marks n 73 r
-        → r ≡ fiftyTally del Tramo
-    tramos-in q z m w = tramos-tally del (q ∙ rw a refl) z (rw (a, b, c) at m) w
+      pub tramos-in :
+          {t r : Tally} {wanted before marks : List ℕ} → Fills wanted (tramoEnd (del Tramo)) (del Tramo .count) n → TalliedTo (fifties del Tramo) (del Tramo .count) 63 t
+          → Marked before marks (λ i. apartAt Last (tableOf vertices Vertice) (tableOf nodes Nodo) (getD ends i 0) (getD wanted i 0)) n → Next t marks n 73 r
+          → r ≡ fiftyTally del Tramo
+      tramos-in w z k s = tramos-tally del (tops .count) z (apart-marks (del Tramo) (del Vertice) (del Nodo) lent tops Last w (rw (a, b) at k)) s
 
+  -- and the point objects by theirs
   pub points-in :
-      {points nodes : List ℕ} → points ≡ files ObPun → nodes ≡ files Nodo → {t r : Tally} {before marks : List ℕ} {n : ℕ} → n ≡ tableOf points ObPun .count → t ≡ noTally
-      → Marked before marks (pointElsewhere (tableOf points ObPun) (tableOf nodes Nodo)) (tableOf points ObPun .count) → Next t marks n 35 r
+      {points nodes wanted xs ys : List ℕ} {m n : ℕ} → points ≡ files ObPun → nodes ≡ files Nodo
+      → Fills wanted (λ i. nameAt ObPun (tableOf points ObPun) i 3) (tableOf points ObPun .count) n → Positions xs ys ObPun (tableOf points ObPun) m
+      → {t r : Tally} {before marks : List ℕ} → t ≡ noTally
+      → Marked before marks (λ i. astrayAt (tableOf nodes Nodo) (getD wanted i 0) (getD xs i 0) (getD ys i 0)) n → Next t marks n 35 r
       → r ≡ fiftyTally del ObPun
-  points-in a b q z m w = points-tally del (q ∙ rw a refl) z (rw (a, b) at m) w
+  points-in {points} {nodes} a b w p z k s =
+      points-tally del (w .count ∙ rw a refl) z (rw (a, b) at (astray-marks (tableOf points ObPun) (tableOf nodes Nodo) w p k)) s
 
   pub objects-in :
       {objects tramos : List ℕ} → objects ≡ files ObLin → tramos ≡ files Tramo → {t r : Tally} {before marks : List ℕ} {n : ℕ} → n ≡ tableOf objects ObLin .count → t ≡ noTally

@@ -40,6 +40,10 @@ holds-more {out} {column} {i} {x} l e h =
 pub holds-end : {out : List ℕ} {column : ℕ → ℕ} {i n : ℕ} → n ≤ i → Holds out column i → Holds out column n
 holds-end le h = record { each = λ j l. h .each j (omega arith) }
 
+-- a column of the file counted as another of it is
+pub fills-with : {a b : List ℕ} {p q : ℕ → ℕ} {c m n : ℕ} → Fills a p c m → Fills b q c n → Fills b q c m
+fills-with f g = record { count = f .count; small = g .small; long = g .long; holds = g .holds }
+
 -- NUMBERS APART: two records with one number are one
 pub one-record : (key : ℕ → ℕ) (n : ℕ) → firstDuplicate key n ≡ none → (a b : ℕ) → a < n → b < n → key a ≡ key b → a ≡ b
 one-record key n d a b la lb e =

@@ -17,6 +17,7 @@ use Rattle.index.specs.declared.Found.{Found}
 use Rattle.index.specs.declared.Found.the-variants.{At, Nothing}
 use Rattle.index.specs.declared.way.Way.{Way}
 use Rattle.index.proofs.LookLaws.{sought-record}
+use Rattle.record.specs.machinery.Columns.{Fills}
 use Rattle.topology.specs.machinery.Lent.{Holds}
 use Rattle.topology.specs.machinery.Tops.{lineOf, Tops}
 use Rattle.topology.specs.Rules.{highestIn}
@@ -107,3 +108,15 @@ module _ {keys lines order hints tops : List ℕ} {n : ℕ} {way : Way} (s : Top
   top-found {r} same e =
       let h = sought-record lines n line sought e in
       rw (h .1) at (s .top r (h .0) (ap (lookOf lines order hints (way .hinted) n) (h .1) ∙ sym same ∙ e))
+
+-- THE HIGHEST KEYS of lines that are named by a column, filled from the array that has it
+pub ends-filled :
+    (keys : List ℕ) (n : ℕ) {named out : List ℕ} {line : ℕ → ℕ} {c t : ℕ} → Fills named line c t → c ≤ length out
+    → Holds out (λ i. highestIn (listed keys) (getD named i 0) n) t → Fills out (λ i. highestIn (listed keys) (line i) n) c t
+ends-filled keys n f l h =
+    record {
+      count = f .count;
+      small = f .small;
+      long = l;
+      holds = λ i u. h .each i (omega (arith, f .count)) ∙ ap (λ (x : ℕ). highestIn (listed keys) x n) (f .holds i u);
+    }

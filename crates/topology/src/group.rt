@@ -13,10 +13,11 @@ use crate::orders::mark_alone;
 use crate::orders::mark_gaps;
 use crate::spots::fill_positions;
 use crate::spots::mark_same_place;
-use crate::tops::prepare_tops;
+use crate::tops::prepare_ends;
 use index::FEW_HINTS;
 use index::Found;
 use index::HINTS;
+use index::marks::clear;
 use index::tally::Tally;
 use index::tally::no_tally;
 use index::tally::with_marks;
@@ -41,6 +42,8 @@ ghost use mathlib.Core.Path.{_≡_};
 ghost use mathlib.Core.List.{List, map};
 ghost use Prim.Native.Nat.{ℕ, _≤_, _<_};
 ghost use lib.ListN.{length, getD};
+ghost use Rattle.laws.specs.Find.{names};
+ghost use Rattle.index.specs.Keys.{listed};
 ghost use Rattle.index.specs.Way.{Ready};
 ghost use Rattle.record.specs.Table.{limit};
 ghost use Rattle.record.specs.Files.{filesOf, deliveryOf};
@@ -50,8 +53,8 @@ ghost use Rattle.record.specs.machinery.Columns.{Fills};
 ghost use Rattle.keys.specs.machinery.Groups.{atFile};
 ghost use Rattle.topology.specs.machinery.Cells.{fiftyTally, fiftyTallies};
 ghost use Rattle.topology.specs.machinery.Places.{orIndex, Positions};
-ghost use Rattle.topology.specs.machinery.Tops.{Tops};
-ghost use Rattle.topology.specs.Rules.{reasonsAt};
+ghost use Rattle.topology.specs.machinery.Used.{Used, Named, isEnd, isNamed};
+ghost use Rattle.topology.specs.Rules.{highestIn, tramoLine, tramoStart, tramoEnd, reasonsAt};
 ghost use Rattle.topology.specs.machinery.Findings.{topologyIn, topologyFinding};
 
 // 50 and 51, of the vertices, with their keys in hand.
@@ -73,9 +76,14 @@ fn tally_vertices<'a, 'b>(
     with_marks(t, marks, n, 21)
 }
 
-// 59, 52 and 53, of the tramos, with the vertices, the highest of each line and the nodes in hand; X and Y are vx, vy and nx, ny.
+// 59, 52 and 53, of t tramos, with the columns of the highest keys of their lines and of their nodes' names, and the vertices and the nodes in
+// hand; X and Y are vx, vy and nx, ny.
 fn tally_ends<'a, 'b>(
     files: [&'a [u8]; FILES],
+    ends: &'b [u64],
+    starts: &'b [u64],
+    lasts: &'b [u64],
+    t: usize,
     keys: &'b [u64],
     order: &'b [usize],
     vertices: &'b [u16],
@@ -83,11 +91,6 @@ fn tally_ends<'a, 'b>(
     n: usize,
     vx: &'b [u64],
     vy: &'b [u64],
-    lines: &'b [u64],
-    line_order: &'b [usize],
-    line_hints: &'b [u16],
-    line_way: Way,
-    tops: &'b [u64],
     ids: &'b [u64],
     ranks: &'b [usize],
     nodes: &'b [u16],
@@ -95,30 +98,22 @@ fn tally_ends<'a, 'b>(
     m: usize,
     nx: &'b [u64],
     ny: &'b [u64],
+    named: &mut [u8],
     marks: &mut [u8],
 ) -> Tally
-    requires { ⌜ Tops (now keys) (now lines) (now «line_order») (now «line_hints») (now tops) n «line_way» n × Ready (now keys) (now order) (now vertices) n way × Fills (now keys) (keyOf Kind.Vertice (deliveryOf (filesOf (map now files)) Kind.Vertice)) (deliveryOf (filesOf (map now files)) Kind.Vertice .count) n × Ready (now ids) (now ranks) (now nodes) m by × Fills (now ids) (λ j. nameAt Kind.Nodo (deliveryOf (filesOf (map now files)) Kind.Nodo) j 1) (deliveryOf (filesOf (map now files)) Kind.Nodo .count) m × (deliveryOf (filesOf (map now files)) Kind.Tramo .count ≤ length (now marks)) × Positions (now vx) (now vy) Kind.Vertice (deliveryOf (filesOf (map now files)) Kind.Vertice) n × Positions (now nx) (now ny) Kind.Nodo (deliveryOf (filesOf (map now files)) Kind.Nodo) m ⌝ }
+    requires { ⌜ Ready (now keys) (now order) (now vertices) n way × Fills (now keys) (keyOf Kind.Vertice (deliveryOf (filesOf (map now files)) Kind.Vertice)) (deliveryOf (filesOf (map now files)) Kind.Vertice .count) n × Ready (now ids) (now ranks) (now nodes) m by × Fills (now ids) (λ j. nameAt Kind.Nodo (deliveryOf (filesOf (map now files)) Kind.Nodo) j 1) (deliveryOf (filesOf (map now files)) Kind.Nodo .count) m × Positions (now vx) (now vy) Kind.Vertice (deliveryOf (filesOf (map now files)) Kind.Vertice) n × Positions (now nx) (now ny) Kind.Nodo (deliveryOf (filesOf (map now files)) Kind.Nodo) m × Fills (now ends) (λ i. highestIn (listed (now keys)) (tramoLine (deliveryOf (filesOf (map now files)) Kind.Tramo) i) n) (deliveryOf (filesOf (map now files)) Kind.Tramo .count) t × Fills (now starts) (tramoStart (deliveryOf (filesOf (map now files)) Kind.Tramo)) (deliveryOf (filesOf (map now files)) Kind.Tramo .count) t × Fills (now lasts) (tramoEnd (deliveryOf (filesOf (map now files)) Kind.Tramo)) (deliveryOf (filesOf (map now files)) Kind.Tramo .count) t × (t ≤ length (now marks)) × (m ≤ length (now named)) ⌝ }
     ensures { λ r. ⌜ r ≡ fiftyTally (deliveryOf (filesOf (map now (files .entry)))) Kind.Tramo ⌝ }
+    ensures held { λ _. ⌜ Used (now (ids .entry)) (now (ranks .entry)) (now (nodes .entry)) (by .hinted) m (now (named .entry)) (now (named .exit)) (isEnd (deliveryOf (filesOf (map now (files .entry))) Kind.Tramo)) ⌝ }
 {
-    let tramo = file_of(files, Kind::Tramo);
     let vertice = file_of(files, Kind::Vertice);
     let nodo = file_of(files, Kind::Nodo);
-    let r = rows(tramo, Kind::Tramo);
-    mark_endless(
-        tramo,
-        keys,
-        lines,
-        line_order,
-        line_hints,
-        line_way,
-        tops,
-        n,
-        marks,
-    );
-    let t = with_marks(no_tally(), marks, r, 49);
+    mark_endless(ends, t, marks);
+    let endless = with_marks(no_tally(), marks, t, 49);
     mark_apart(
         End::Start,
-        tramo,
+        ends,
+        starts,
+        t,
         vertice,
         keys,
         order,
@@ -127,11 +122,6 @@ fn tally_ends<'a, 'b>(
         n,
         vx,
         vy,
-        lines,
-        line_order,
-        line_hints,
-        line_way,
-        tops,
         nodo,
         ids,
         ranks,
@@ -140,12 +130,15 @@ fn tally_ends<'a, 'b>(
         m,
         nx,
         ny,
+        named,
         marks,
     );
-    let u = with_marks(t, marks, r, 62);
+    let started = with_marks(endless, marks, t, 62);
     mark_apart(
         End::Last,
-        tramo,
+        ends,
+        lasts,
+        t,
         vertice,
         keys,
         order,
@@ -154,11 +147,6 @@ fn tally_ends<'a, 'b>(
         n,
         vx,
         vy,
-        lines,
-        line_order,
-        line_hints,
-        line_way,
-        tops,
         nodo,
         ids,
         ranks,
@@ -167,12 +155,13 @@ fn tally_ends<'a, 'b>(
         m,
         nx,
         ny,
+        named,
         marks,
     );
-    with_marks(u, marks, r, 73)
+    with_marks(started, marks, t, 73)
 }
 
-// The same with room for the lines, their highest vertices, and X and Y of the vertices.
+// The same with room for the columns. Two are lent twice: what the vertices' lines and their highest keys stood in then has the nodes' names.
 fn tally_tramos<'a, 'b>(
     files: [&'a [u8]; FILES],
     keys: &'b [u64],
@@ -187,21 +176,32 @@ fn tally_tramos<'a, 'b>(
     m: usize,
     nx: &'b [u64],
     ny: &'b [u64],
-    lines: &mut [u64],
-    line_hints: &mut [u16],
-    line_order: &mut [usize],
-    tops: &mut [u64],
+    most: usize,
+    a: &mut [u64],
+    a_hints: &mut [u16],
+    a_order: &mut [usize],
+    b: &mut [u64],
     vx: &mut [u64],
     vy: &mut [u64],
+    ends: &mut [u64],
+    named: &mut [u8],
     marks: &mut [u8],
 ) -> Tally
-    requires { ⌜ Ready (now keys) (now order) (now vertices) n way × Fills (now keys) (keyOf Kind.Vertice (deliveryOf (filesOf (map now files)) Kind.Vertice)) (deliveryOf (filesOf (map now files)) Kind.Vertice .count) n × Ready (now ids) (now ranks) (now nodes) m by × Fills (now ids) (λ j. nameAt Kind.Nodo (deliveryOf (filesOf (map now files)) Kind.Nodo) j 1) (deliveryOf (filesOf (map now files)) Kind.Nodo .count) m × (n ≤ length (now lines)) × (n ≤ length (now «line_order»)) × (n ≤ length (now tops)) × (deliveryOf (filesOf (map now files)) Kind.Tramo .count ≤ length (now marks)) × Positions (now nx) (now ny) Kind.Nodo (deliveryOf (filesOf (map now files)) Kind.Nodo) m × (n ≤ length (now vx)) × (n ≤ length (now vy)) ⌝ }
+    requires { ⌜ Ready (now keys) (now order) (now vertices) n way × Fills (now keys) (keyOf Kind.Vertice (deliveryOf (filesOf (map now files)) Kind.Vertice)) (deliveryOf (filesOf (map now files)) Kind.Vertice .count) n × Ready (now ids) (now ranks) (now nodes) m by × Fills (now ids) (λ j. nameAt Kind.Nodo (deliveryOf (filesOf (map now files)) Kind.Nodo) j 1) (deliveryOf (filesOf (map now files)) Kind.Nodo .count) m × Positions (now nx) (now ny) Kind.Nodo (deliveryOf (filesOf (map now files)) Kind.Nodo) m × ((k : Kind) → deliveryOf (filesOf (map now files)) k .count ≤ most) × (most ≤ length (now a)) × (most ≤ length (now «a_order»)) × (most ≤ length (now b)) × (most ≤ length (now vx)) × (most ≤ length (now vy)) × (most ≤ length (now ends)) × (most ≤ length (now marks)) × (m ≤ length (now named)) ⌝ }
     ensures { λ r. ⌜ r ≡ fiftyTally (deliveryOf (filesOf (map now (files .entry)))) Kind.Tramo ⌝ }
+    ensures held { λ _. ⌜ Used (now (ids .entry)) (now (ranks .entry)) (now (nodes .entry)) (by .hinted) m (now (named .entry)) (now (named .exit)) (isEnd (deliveryOf (filesOf (map now (files .entry))) Kind.Tramo)) ⌝ }
 {
-    let line_way = prepare_tops(keys, n, lines, line_hints, line_order, tops);
-    fill_positions(file_of(files, Kind::Vertice), Kind::Vertice, n, vx, vy);
+    let tramo = file_of(files, Kind::Tramo);
+    let t = prepare_ends(tramo, keys, n, a, a_hints, a_order, b, vx, ends);
+    fill_positions(file_of(files, Kind::Vertice), Kind::Vertice, most, vx, vy);
+    fill_names(tramo, Kind::Tramo, 6, a);
+    fill_names(tramo, Kind::Tramo, 7, b);
     tally_ends(
         files,
+        ends,
+        a,
+        b,
+        t,
         keys,
         order,
         vertices,
@@ -209,11 +209,6 @@ fn tally_tramos<'a, 'b>(
         n,
         vx,
         vy,
-        lines,
-        line_order,
-        line_hints,
-        line_way,
-        tops,
         ids,
         ranks,
         nodes,
@@ -221,11 +216,79 @@ fn tally_tramos<'a, 'b>(
         m,
         nx,
         ny,
+        named,
         marks,
     )
 }
 
-// 55, of the point objects, with the nodes in hand.
+// The tallies of the tramos and of the vertices.
+struct Lines {
+    tramos: Tally,
+    vertices: Tally,
+}
+
+// They are made together, with the nodes in hand and room lent: the keys of the vertices are read and prepared once for both, and no other
+// rule looks them up.
+fn tally_lines<'a, 'b>(
+    files: [&'a [u8]; FILES],
+    ids: &'b [u64],
+    ranks: &'b [usize],
+    nodes: &'b [u16],
+    by: Way,
+    m: usize,
+    nx: &'b [u64],
+    ny: &'b [u64],
+    most: usize,
+    keys: &mut [u64],
+    key_hints: &mut [u16],
+    key_order: &mut [usize],
+    a: &mut [u64],
+    a_hints: &mut [u16],
+    a_order: &mut [usize],
+    b: &mut [u64],
+    c: &mut [u64],
+    d: &mut [u64],
+    e: &mut [u64],
+    named: &mut [u8],
+    marks: &mut [u8],
+) -> Lines
+    requires { ⌜ Ready (now ids) (now ranks) (now nodes) m by × Fills (now ids) (λ j. nameAt Kind.Nodo (deliveryOf (filesOf (map now files)) Kind.Nodo) j 1) (deliveryOf (filesOf (map now files)) Kind.Nodo .count) m × Positions (now nx) (now ny) Kind.Nodo (deliveryOf (filesOf (map now files)) Kind.Nodo) m × ((k : Kind) → deliveryOf (filesOf (map now files)) k .count ≤ most) × (most ≤ length (now keys)) × (most ≤ length (now «key_order»)) × (most ≤ length (now a)) × (most ≤ length (now «a_order»)) × (most ≤ length (now b)) × (most ≤ length (now c)) × (most ≤ length (now d)) × (most ≤ length (now e)) × (most ≤ length (now marks)) × (m ≤ length (now named)) ⌝ }
+    ensures { λ r. ⌜ r .tramos ≡ fiftyTally (deliveryOf (filesOf (map now (files .entry)))) Kind.Tramo ⌝ }
+    ensures others { λ r. ⌜ r .vertices ≡ fiftyTally (deliveryOf (filesOf (map now (files .entry)))) Kind.Vertice ⌝ }
+    ensures held { λ _. ⌜ Used (now (ids .entry)) (now (ranks .entry)) (now (nodes .entry)) (by .hinted) m (now (named .entry)) (now (named .exit)) (isEnd (deliveryOf (filesOf (map now (files .entry))) Kind.Tramo)) ⌝ }
+{
+    let n = fill_keys(file_of(files, Kind::Vertice), Kind::Vertice, keys);
+    let way = prepare(keys, n, key_hints, key_order);
+    let tramos = tally_tramos(
+        files,
+        keys,
+        key_order,
+        key_hints,
+        way,
+        n,
+        ids,
+        ranks,
+        nodes,
+        by,
+        m,
+        nx,
+        ny,
+        most,
+        a,
+        a_hints,
+        a_order,
+        b,
+        c,
+        d,
+        e,
+        named,
+        marks,
+    );
+    let vertices = tally_vertices(files, keys, key_order, key_hints, way, n, marks);
+    Lines { tramos, vertices }
+}
+
+// 55, of the point objects, with the nodes in hand and room for what they name and where they lie.
 fn tally_points<'a, 'b>(
     files: [&'a [u8]; FILES],
     ids: &'b [u64],
@@ -235,38 +298,62 @@ fn tally_points<'a, 'b>(
     m: usize,
     nx: &'b [u64],
     ny: &'b [u64],
+    most: usize,
+    wanted: &mut [u64],
+    xs: &mut [u64],
+    ys: &mut [u64],
+    named: &mut [u8],
     marks: &mut [u8],
 ) -> Tally
-    requires { ⌜ Ready (now ids) (now ranks) (now nodes) m by × Fills (now ids) (λ j. nameAt Kind.Nodo (deliveryOf (filesOf (map now files)) Kind.Nodo) j 1) (deliveryOf (filesOf (map now files)) Kind.Nodo .count) m × (deliveryOf (filesOf (map now files)) Kind.ObPun .count ≤ length (now marks)) × Positions (now nx) (now ny) Kind.Nodo (deliveryOf (filesOf (map now files)) Kind.Nodo) m ⌝ }
+    requires { ⌜ Ready (now ids) (now ranks) (now nodes) m by × Fills (now ids) (λ j. nameAt Kind.Nodo (deliveryOf (filesOf (map now files)) Kind.Nodo) j 1) (deliveryOf (filesOf (map now files)) Kind.Nodo .count) m × Positions (now nx) (now ny) Kind.Nodo (deliveryOf (filesOf (map now files)) Kind.Nodo) m × (deliveryOf (filesOf (map now files)) Kind.ObPun .count ≤ most) × (most ≤ length (now wanted)) × (most ≤ length (now xs)) × (most ≤ length (now ys)) × (most ≤ length (now marks)) × (m ≤ length (now named)) ⌝ }
     ensures { λ r. ⌜ r ≡ fiftyTally (deliveryOf (filesOf (map now (files .entry)))) Kind.ObPun ⌝ }
+    ensures held { λ _. ⌜ Used (now (ids .entry)) (now (ranks .entry)) (now (nodes .entry)) (by .hinted) m (now (named .entry)) (now (named .exit)) (names (λ j. nameAt Kind.ObPun (deliveryOf (filesOf (map now (files .entry))) Kind.ObPun) j 3) (deliveryOf (filesOf (map now (files .entry))) Kind.ObPun .count)) ⌝ }
 {
     let ob_pun = file_of(files, Kind::ObPun);
     let nodo = file_of(files, Kind::Nodo);
-    mark_astray(ob_pun, nodo, ids, ranks, nodes, by, m, nx, ny, marks);
-    with_marks(no_tally(), marks, rows(ob_pun, Kind::ObPun), 35)
+    let n = fill_names(ob_pun, Kind::ObPun, 3, wanted);
+    fill_positions(ob_pun, Kind::ObPun, most, xs, ys);
+    mark_astray(
+        wanted,
+        xs,
+        ys,
+        n,
+        nodo,
+        ids,
+        ranks,
+        nodes,
+        by,
+        m,
+        nx,
+        ny,
+        named,
+        marks,
+    );
+    with_marks(no_tally(), marks, n, 35)
 }
 
-// 57, of the linear objects, with room for their ids.
+// 57, of the linear objects, with room for their ids and for what the tramos name.
 fn tally_objects<'a>(
     files: [&'a [u8]; FILES],
     ids: &mut [u64],
     hints: &mut [u16],
     order: &mut [usize],
+    refs: &mut [u64],
     used: &mut [u8],
     marks: &mut [u8],
 ) -> Tally
-    requires { ⌜ (deliveryOf (filesOf (map now files)) Kind.ObLin .count ≤ length (now ids)) × (deliveryOf (filesOf (map now files)) Kind.ObLin .count ≤ length (now order)) × (deliveryOf (filesOf (map now files)) Kind.ObLin .count ≤ length (now used)) × (deliveryOf (filesOf (map now files)) Kind.ObLin .count ≤ length (now marks)) ⌝ }
+    requires { ⌜ (deliveryOf (filesOf (map now files)) Kind.ObLin .count ≤ length (now ids)) × (deliveryOf (filesOf (map now files)) Kind.ObLin .count ≤ length (now order)) × (deliveryOf (filesOf (map now files)) Kind.ObLin .count ≤ length (now used)) × (deliveryOf (filesOf (map now files)) Kind.ObLin .count ≤ length (now marks)) × (deliveryOf (filesOf (map now files)) Kind.Tramo .count ≤ length (now refs)) ⌝ }
     ensures { λ r. ⌜ r ≡ fiftyTally (deliveryOf (filesOf (map now (files .entry)))) Kind.ObLin ⌝ }
 {
     let ob_lin = file_of(files, Kind::ObLin);
     let tramo = file_of(files, Kind::Tramo);
     let n = fill_names(ob_lin, Kind::ObLin, 1, ids);
     let way = prepare(ids, n, hints, order);
-    mark_idle_objects(tramo, ob_lin, ids, order, hints, way, n, used, marks);
+    mark_idle_objects(tramo, ob_lin, ids, order, hints, way, n, refs, used, marks);
     with_marks(no_tally(), marks, n, 7)
 }
 
-// 54 and 56, of the nodes, with their ids in hand and room for places.
+// 54 and 56, of the nodes, with their ids and which of them are named in hand and room for places.
 fn tally_nodes<'a, 'b>(
     files: [&'a [u8]; FILES],
     ids: &'b [u64],
@@ -277,7 +364,7 @@ fn tally_nodes<'a, 'b>(
     nx: &'b [u64],
     ny: &'b [u64],
     most: usize,
-    used: &mut [u8],
+    used: &'b [u8],
     xs: &mut [u64],
     ys: &mut [u64],
     hints: &mut [u16],
@@ -289,7 +376,7 @@ fn tally_nodes<'a, 'b>(
     pair_order: &mut [usize],
     marks: &mut [u8],
 ) -> Tally
-    requires { ⌜ Ready (now ids) (now ranks) (now nodes) m by × Fills (now ids) (λ j. nameAt Kind.Nodo (deliveryOf (filesOf (map now files)) Kind.Nodo) j 1) (deliveryOf (filesOf (map now files)) Kind.Nodo .count) m × ((k : Kind) → deliveryOf (filesOf (map now files)) k .count ≤ most) × (most ≤ length (now used)) × (most ≤ length (now xs)) × (most ≤ length (now ys)) × (most ≤ length (now order)) × (most ≤ length (now zs)) × (most ≤ length (now spots)) × (most ≤ length (now pairs)) × (most ≤ length (now «pair_order»)) × (most ≤ length (now marks)) × Positions (now nx) (now ny) Kind.Nodo (deliveryOf (filesOf (map now files)) Kind.Nodo) m ⌝ }
+    requires { ⌜ Ready (now ids) (now ranks) (now nodes) m by × Fills (now ids) (λ j. nameAt Kind.Nodo (deliveryOf (filesOf (map now files)) Kind.Nodo) j 1) (deliveryOf (filesOf (map now files)) Kind.Nodo .count) m × ((k : Kind) → deliveryOf (filesOf (map now files)) k .count ≤ most) × Named (now ids) (now ranks) (now nodes) (by .hinted) m (now used) (isNamed (deliveryOf (filesOf (map now files)) Kind.ObPun) (deliveryOf (filesOf (map now files)) Kind.Tramo)) × (most ≤ length (now xs)) × (most ≤ length (now ys)) × (most ≤ length (now order)) × (most ≤ length (now zs)) × (most ≤ length (now spots)) × (most ≤ length (now pairs)) × (most ≤ length (now «pair_order»)) × (most ≤ length (now marks)) × Positions (now nx) (now ny) Kind.Nodo (deliveryOf (filesOf (map now files)) Kind.Nodo) m ⌝ }
     ensures { λ r. ⌜ r ≡ fiftyTally (deliveryOf (filesOf (map now (files .entry)))) Kind.Nodo ⌝ }
 {
     let ob_pun = file_of(files, Kind::ObPun);
@@ -322,15 +409,12 @@ fn tally_nodes<'a, 'b>(
     with_marks(t, marks, m, 6)
 }
 
-// Each file's tally, with the keys of the vertices and the ids, X and Y of the nodes in hand. No rule of the fifties is read of CATALOGO and
-// OB_TEX.
+// Each file's tally, with those of the tramos and the vertices and the ids, X and Y of the nodes in hand. No rule of the fifties is read of
+// CATALOGO and OB_TEX.
 fn tally_in_hand<'a, 'b>(
     files: [&'a [u8]; FILES],
-    keys: &'b [u64],
-    order: &'b [usize],
-    vertices: &'b [u16],
-    way: Way,
-    n: usize,
+    tramos: Tally,
+    vertices: Tally,
     ids: &'b [u64],
     ranks: &'b [usize],
     nodes: &'b [u16],
@@ -343,26 +427,20 @@ fn tally_in_hand<'a, 'b>(
     b: &mut [u64],
     c: &mut [u64],
     d: &mut [u64],
-    e: &mut [u64],
     a_hints: &mut [u16],
     a_order: &mut [usize],
-    b_hints: &mut [u16],
-    b_order: &mut [usize],
+    pairs: &mut [u64],
+    pair_hints: &mut [u16],
+    pair_order: &mut [usize],
+    named: &mut [u8],
     used: &mut [u8],
     marks: &mut [u8],
 ) -> [Tally; FILES]
-    requires { ⌜ Ready (now keys) (now order) (now vertices) n way × Fills (now keys) (keyOf Kind.Vertice (deliveryOf (filesOf (map now files)) Kind.Vertice)) (deliveryOf (filesOf (map now files)) Kind.Vertice .count) n × Ready (now ids) (now ranks) (now nodes) m by × Fills (now ids) (λ j. nameAt Kind.Nodo (deliveryOf (filesOf (map now files)) Kind.Nodo) j 1) (deliveryOf (filesOf (map now files)) Kind.Nodo .count) m × ((k : Kind) → deliveryOf (filesOf (map now files)) k .count ≤ most) × (most ≤ length (now a)) × (most ≤ length (now b)) × (most ≤ length (now c)) × (most ≤ length (now d)) × (most ≤ length (now e)) × (most ≤ length (now «a_order»)) × (most ≤ length (now «b_order»)) × (most ≤ length (now used)) × (most ≤ length (now marks)) × Positions (now nx) (now ny) Kind.Nodo (deliveryOf (filesOf (map now files)) Kind.Nodo) m ⌝ }
+    requires { ⌜ (tramos ≡ fiftyTally (deliveryOf (filesOf (map now files))) Kind.Tramo) × (vertices ≡ fiftyTally (deliveryOf (filesOf (map now files))) Kind.Vertice) × Ready (now ids) (now ranks) (now nodes) m by × Fills (now ids) (λ j. nameAt Kind.Nodo (deliveryOf (filesOf (map now files)) Kind.Nodo) j 1) (deliveryOf (filesOf (map now files)) Kind.Nodo .count) m × Positions (now nx) (now ny) Kind.Nodo (deliveryOf (filesOf (map now files)) Kind.Nodo) m × ((k : Kind) → deliveryOf (filesOf (map now files)) k .count ≤ most) × (most ≤ length (now a)) × (most ≤ length (now b)) × (most ≤ length (now c)) × (most ≤ length (now d)) × (most ≤ length (now «a_order»)) × (most ≤ length (now pairs)) × (most ≤ length (now «pair_order»)) × (most ≤ length (now used)) × (most ≤ length (now marks)) × Named (now ids) (now ranks) (now nodes) (by .hinted) m (now named) (isEnd (deliveryOf (filesOf (map now files)) Kind.Tramo)) ⌝ }
     ensures { λ r. ⌜ r ≡ fiftyTallies (deliveryOf (filesOf (map now (files .entry)))) ⌝ }
 {
-    let points = tally_points(files, ids, ranks, nodes, by, m, nx, ny, marks);
-    let objects = tally_objects(files, a, a_hints, a_order, used, marks);
-    let tramos = tally_tramos(
+    let points = tally_points(
         files,
-        keys,
-        order,
-        vertices,
-        way,
-        n,
         ids,
         ranks,
         nodes,
@@ -370,15 +448,14 @@ fn tally_in_hand<'a, 'b>(
         m,
         nx,
         ny,
+        most,
         a,
-        a_hints,
-        a_order,
         b,
         c,
-        d,
+        named,
         marks,
     );
-    let vertices = tally_vertices(files, keys, order, vertices, way, n, marks);
+    let objects = tally_objects(files, a, a_hints, a_order, b, used, marks);
     let nodes = tally_nodes(
         files,
         ids,
@@ -389,16 +466,16 @@ fn tally_in_hand<'a, 'b>(
         nx,
         ny,
         most,
-        used,
+        named,
         a,
         b,
         a_hints,
         a_order,
         c,
         d,
-        e,
-        b_hints,
-        b_order,
+        pairs,
+        pair_hints,
+        pair_order,
         marks,
     );
     [
@@ -412,7 +489,7 @@ fn tally_in_hand<'a, 'b>(
     ]
 }
 
-// Each file's tally, in lent room.
+// Each file's tally, in lent room. Once the tramos and the vertices are gone over, what the vertices' keys stood in is lent to the nodes.
 fn tally_files<'a>(
     files: [&'a [u8]; FILES],
     most: usize,
@@ -431,26 +508,47 @@ fn tally_files<'a>(
     e: &mut [u64],
     a_hints: &mut [u16],
     a_order: &mut [usize],
-    b_hints: &mut [u16],
-    b_order: &mut [usize],
+    named: &mut [u8],
     used: &mut [u8],
     marks: &mut [u8],
 ) -> [Tally; FILES]
-    requires { ⌜ ((k : Kind) → deliveryOf (filesOf (map now files)) k .count ≤ most) × (most ≤ length (now keys)) × (most ≤ length (now «key_order»)) × (most ≤ length (now ids)) × (most ≤ length (now «id_order»)) × (most ≤ length (now a)) × (most ≤ length (now b)) × (most ≤ length (now c)) × (most ≤ length (now d)) × (most ≤ length (now e)) × (most ≤ length (now «a_order»)) × (most ≤ length (now «b_order»)) × (most ≤ length (now used)) × (most ≤ length (now marks)) × (most ≤ length (now nx)) × (most ≤ length (now ny)) ⌝ }
+    requires { ⌜ ((k : Kind) → deliveryOf (filesOf (map now files)) k .count ≤ most) × (most ≤ length (now keys)) × (most ≤ length (now «key_order»)) × (most ≤ length (now ids)) × (most ≤ length (now «id_order»)) × (most ≤ length (now nx)) × (most ≤ length (now ny)) × (most ≤ length (now a)) × (most ≤ length (now b)) × (most ≤ length (now c)) × (most ≤ length (now d)) × (most ≤ length (now e)) × (most ≤ length (now «a_order»)) × (most ≤ length (now used)) × (most ≤ length (now marks)) × (most ≤ length (now named)) ⌝ }
     ensures { λ r. ⌜ r ≡ fiftyTallies (deliveryOf (filesOf (map now (files .entry)))) ⌝ }
 {
-    let n = fill_keys(file_of(files, Kind::Vertice), Kind::Vertice, keys);
-    let way = prepare(keys, n, key_hints, key_order);
-    let m = fill_names(file_of(files, Kind::Nodo), Kind::Nodo, 1, ids);
+    let nodo = file_of(files, Kind::Nodo);
+    let m = fill_names(nodo, Kind::Nodo, 1, ids);
     let by = prepare(ids, m, id_hints, id_order);
-    fill_positions(file_of(files, Kind::Nodo), Kind::Nodo, most, nx, ny);
+    fill_positions(nodo, Kind::Nodo, most, nx, ny);
+    clear(named, m);
+    let lines = tally_lines(
+        files,
+        ids,
+        id_order,
+        id_hints,
+        by,
+        m,
+        nx,
+        ny,
+        most,
+        keys,
+        key_hints,
+        key_order,
+        a,
+        a_hints,
+        a_order,
+        b,
+        c,
+        d,
+        e,
+        named,
+        marks,
+    );
+    let tramos = lines.tramos;
+    let vertices = lines.vertices;
     tally_in_hand(
         files,
-        keys,
-        key_order,
-        key_hints,
-        way,
-        n,
+        tramos,
+        vertices,
         ids,
         id_order,
         id_hints,
@@ -463,11 +561,12 @@ fn tally_files<'a>(
         b,
         c,
         d,
-        e,
         a_hints,
         a_order,
-        b_hints,
-        b_order,
+        keys,
+        key_hints,
+        key_order,
+        named,
         used,
         marks,
     )
@@ -493,8 +592,7 @@ fn tally_few<'a>(files: [&'a [u8]; FILES]) -> [Tally; FILES]
     let mut e = [0u64; FEW];
     let mut a_hints = [0u16; FEW_HINTS];
     let mut a_order = [0usize; FEW];
-    let mut b_hints = [0u16; FEW_HINTS];
-    let mut b_order = [0usize; FEW];
+    let mut named = [0u8; FEW];
     let mut used = [0u8; FEW];
     let mut marks = [0u8; FEW];
     tally_files(
@@ -515,8 +613,7 @@ fn tally_few<'a>(files: [&'a [u8]; FILES]) -> [Tally; FILES]
         &mut e,
         &mut a_hints,
         &mut a_order,
-        &mut b_hints,
-        &mut b_order,
+        &mut named,
         &mut used,
         &mut marks,
     )
@@ -541,8 +638,7 @@ fn tally_many<'a>(files: [&'a [u8]; FILES]) -> [Tally; FILES]
     let mut e = [0u64; LIMIT];
     let mut a_hints = [0u16; HINTS];
     let mut a_order = [0usize; LIMIT];
-    let mut b_hints = [0u16; HINTS];
-    let mut b_order = [0usize; LIMIT];
+    let mut named = [0u8; LIMIT];
     let mut used = [0u8; LIMIT];
     let mut marks = [0u8; LIMIT];
     tally_files(
@@ -563,8 +659,7 @@ fn tally_many<'a>(files: [&'a [u8]; FILES]) -> [Tally; FILES]
         &mut e,
         &mut a_hints,
         &mut a_order,
-        &mut b_hints,
-        &mut b_order,
+        &mut named,
         &mut used,
         &mut marks,
     )

@@ -4,14 +4,18 @@ use index::Found;
 use index::way::Way;
 use index::way::look;
 use index::way::prepare;
+use record::fill::fill_names;
+use record::kind::Kind;
 ghost use mathlib.Core.Path.{_≡_};
 ghost use Prim.Native.Nat.{ℕ, _≤_, max};
-ghost use lib.ListN.{length};
+ghost use lib.ListN.{length, getD};
 ghost use Rattle.index.specs.Keys.{listed, room};
 ghost use Rattle.index.specs.Way.{Ready};
+ghost use Rattle.record.specs.Says.{tableOf};
+ghost use Rattle.record.specs.machinery.Columns.{Fills};
 ghost use Rattle.topology.specs.machinery.Lent.{Holds};
 ghost use Rattle.topology.specs.machinery.Tops.{lineOf, Tops};
-ghost use Rattle.topology.specs.Rules.{highestIn};
+ghost use Rattle.topology.specs.Rules.{highestIn, tramoLine};
 
 // The lines of the first `n` vertices, whose keys are line * 100000 + order.
 pub(crate) fn fill_lines(keys: &[u64], n: usize, out: &mut [u64])
@@ -106,4 +110,48 @@ pub(crate) fn highest_of<'a>(
         Found::Nothing => 0,
         Found::At(r) => tops[r],
     }
+}
+
+// The highest key of each of t lines that are named, 0 where a line has none.
+pub(crate) fn fill_ends<'a>(
+    keys: &'a [u64],
+    lines: &'a [u64],
+    order: &'a [usize],
+    hints: &'a [u16],
+    way: Way,
+    tops: &'a [u64],
+    n: usize,
+    named: &'a [u64],
+    t: usize,
+    out: &mut [u64],
+)
+    requires { ⌜ Tops (now keys) (now lines) (now order) (now hints) (now tops) n way n × (t ≤ length (now named)) × (t ≤ length (now out)) ⌝ }
+    ensures { λ _. ⌜ Holds (now (out .exit)) (λ i. highestIn (listed (now (keys .entry))) (getD (now (named .entry)) i 0) n) t ⌝ }
+{
+    let mut i = 0;
+    while i < t {
+        out[i] = highest_of(keys, lines, order, hints, way, tops, n, named[i]);
+        i += 1;
+    }
+}
+
+// The highest key of each tramo's line, with the keys of the n vertices in hand and room lent.
+pub(crate) fn prepare_ends<'a, 'b>(
+    tramo: &'a [u8],
+    keys: &'b [u64],
+    n: usize,
+    lines: &mut [u64],
+    hints: &mut [u16],
+    order: &mut [usize],
+    tops: &mut [u64],
+    named: &mut [u64],
+    out: &mut [u64],
+) -> usize
+    requires { ⌜ (n ≤ room) × (n ≤ length (now keys)) × (n ≤ length (now lines)) × (n ≤ length (now order)) × (n ≤ length (now tops)) × (tableOf (now tramo) Kind.Tramo .count ≤ length (now named)) × (tableOf (now tramo) Kind.Tramo .count ≤ length (now out)) ⌝ }
+    ensures { λ r. ⌜ Fills (now (out .exit)) (λ i. highestIn (listed (now (keys .entry))) (tramoLine (tableOf (now (tramo .entry)) Kind.Tramo) i) n) (tableOf (now (tramo .entry)) Kind.Tramo .count) r ⌝ }
+{
+    let way = prepare_tops(keys, n, lines, hints, order, tops);
+    let t = fill_names(tramo, Kind::Tramo, 4, named);
+    fill_ends(keys, lines, order, hints, way, tops, n, named, t, out);
+    t
 }

@@ -6,21 +6,21 @@ use index::Found;
 use index::marks::as_mark;
 use index::way::Way;
 use index::way::look;
-use record::columns::rows;
+use record::fill::fill_names;
 use record::kind::Kind;
-use record::names::name;
 ghost use mathlib.Core.Path.{_≡_};
 ghost use Prim.Native.Nat.{_<_, _≤_};
 ghost use lib.ListN.{length, getD};
 ghost use Rattle.laws.specs.Find.{names};
-ghost use Rattle.index.specs.Look.{Sought};
+ghost use Rattle.index.specs.Keys.{listed};
+ghost use Rattle.index.specs.Look.{Sought, foundBelow};
 ghost use Rattle.index.specs.Way.{lookOf, Ready};
 ghost use Rattle.record.specs.Says.{tableOf};
 ghost use Rattle.record.specs.Names.{nameAt};
-ghost use Rattle.topology.specs.machinery.Used.{foundBelow, putAt, freeAt, Used, Unheld};
+ghost use Rattle.topology.specs.machinery.Used.{putAt, freeAt, Used, Unheld};
 
 // The record that was found is in use.
-fn put(found: Found, used: &mut [u8])
+pub(crate) fn put(found: Found, used: &mut [u8])
     requires { ⌜ foundBelow found (length (now used)) ⌝ }
     ensures { λ _. ⌜ now (used .exit) ≡ putAt (now (used .entry)) found ⌝ }
 {
@@ -32,7 +32,29 @@ fn put(found: Found, used: &mut [u8])
     }
 }
 
-// The records that field f of a record of s names are in use.
+// The records that m names name are in use.
+fn mark_named<'a>(
+    refs: &'a [u64],
+    m: usize,
+    ids: &'a [u64],
+    order: &'a [usize],
+    hints: &'a [u16],
+    way: Way,
+    n: usize,
+    used: &mut [u8],
+)
+    requires { ⌜ Ready (now ids) (now order) (now hints) n way × (n ≤ length (now used)) × (m ≤ length (now refs)) ⌝ }
+    ensures { λ _. ⌜ Used (now (ids .entry)) (now (order .entry)) (now (hints .entry)) (way .hinted) n (now (used .entry)) (now (used .exit)) (names (listed (now (refs .entry))) m) ⌝ }
+{
+    let mut i = 0;
+    while i < m {
+        let found = look(ids, order, hints, way, n, refs[i]);
+        put(found, used);
+        i += 1;
+    }
+}
+
+// The records that field f of a record of s names are in use; the names are read into lent room.
 pub(crate) fn mark_used<'a, 'b>(
     s: &'a [u8],
     k: Kind,
@@ -42,18 +64,14 @@ pub(crate) fn mark_used<'a, 'b>(
     hints: &'b [u16],
     way: Way,
     n: usize,
+    refs: &mut [u64],
     used: &mut [u8],
 )
-    requires { ⌜ Ready (now ids) (now order) (now hints) n way × (n ≤ length (now used)) ⌝ }
+    requires { ⌜ Ready (now ids) (now order) (now hints) n way × (n ≤ length (now used)) × (tableOf (now s) k .count ≤ length (now refs)) ⌝ }
     ensures { λ _. ⌜ Used (now (ids .entry)) (now (order .entry)) (now (hints .entry)) (way .hinted) n (now (used .entry)) (now (used .exit)) (names (λ j. nameAt k (tableOf (now (s .entry)) k) j f) (tableOf (now (s .entry)) k .count)) ⌝ }
 {
-    let m = rows(s, k);
-    let mut i = 0;
-    while i < m {
-        let found = look(ids, order, hints, way, n, name(s, k, i, f));
-        put(found, used);
-        i += 1;
-    }
+    let m = fill_names(s, k, f, refs);
+    mark_named(refs, m, ids, order, hints, way, n, used);
 }
 
 // The record that a look-up of id i finds. It is record i, and needs no look-up, where hints find every id and ids are known to differ.

@@ -1,4 +1,4 @@
--- `topology::group::tally_few` meets its contract: the arrays have room for a few records.
+-- `topology::group::tally_few` meets its contract. The arrays have room for a few records.
 -- Assumes nothing.
 use native.Mathlib.Omega.{arith}
 use borrow.Author.Needs.{needs}
@@ -59,14 +59,12 @@ slice-aggregate-tally-files-17 c = search needs
 slice-aggregate-tally-files-18 : tie.Need-slice-aggregate-tally-files-18
 slice-aggregate-tally-files-18 c = search needs
 
-slice-aggregate-tally-files-19 : tie.Need-slice-aggregate-tally-files-19
-slice-aggregate-tally-files-19 c = search needs
-
 tally-files-requires : tie.Need-tally-files-requires
-tally-files-requires c κs = (c .before .before .before .before .before .before .before .before .before .before .before .before .before .before .before .before .before .before .before .pre, omega arith, omega arith, omega arith, omega arith, omega arith, omega arith, omega arith, omega arith, omega arith, omega arith, omega arith, omega arith, omega arith, omega arith, omega arith)
+tally-files-requires c κs =
+    (c .before .before .before .before .before .before .before .before .before .before .before .before .before .before .before .before .before .before .pre, omega arith, omega arith, omega arith, omega arith, omega arith, omega arith, omega arith, omega arith, omega arith, omega arith, omega arith, omega arith, omega arith, omega arith, omega arith)
 
 returns : tie.Need-returns
-returns c = c .before .before .before .before .before .before .before .before .before .before .before .before .before .before .before .before .before .before .before .tally-files .ensures
+returns c = c .before .before .before .before .before .before .before .before .before .before .before .before .before .before .before .before .before .before .tally-files .ensures
 
 pub tally-few-spec : {M : Type 1} → statement M
 tally-few-spec =
@@ -90,6 +88,5 @@ tally-few-spec =
     slice-aggregate-tally-files-16
     slice-aggregate-tally-files-17
     slice-aggregate-tally-files-18
-    slice-aggregate-tally-files-19
     tally-files-requires
     returns)

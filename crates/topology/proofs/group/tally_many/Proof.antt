@@ -1,7 +1,7 @@
--- `topology::group::tally_many` meets its contract: the arrays have room for as many records as a file may have.
+-- `topology::group::tally_many` meets its contract. The arrays have room for any file's table.
 -- Assumes nothing.
-use native.Mathlib.Omega.{arith}
 use native.Mathlib.Nat.{min-le-left}
+use native.Mathlib.Omega.{arith}
 use borrow.Author.Needs.{needs}
 use Rattle.topology.proofs.group.tally_many.Statement.{statement}
 use Rattle.topology.proofs.group.tally_many.Tie as tie
@@ -60,14 +60,12 @@ slice-aggregate-tally-files-17 c = search needs
 slice-aggregate-tally-files-18 : tie.Need-slice-aggregate-tally-files-18
 slice-aggregate-tally-files-18 c = search needs
 
-slice-aggregate-tally-files-19 : tie.Need-slice-aggregate-tally-files-19
-slice-aggregate-tally-files-19 c = search needs
-
 tally-files-requires : tie.Need-tally-files-requires
-tally-files-requires c κs = (λ k. min-le-left _ _, omega arith, omega arith, omega arith, omega arith, omega arith, omega arith, omega arith, omega arith, omega arith, omega arith, omega arith, omega arith, omega arith, omega arith, omega arith)
+tally-files-requires c κs =
+    (λ k. min-le-left _ _, omega arith, omega arith, omega arith, omega arith, omega arith, omega arith, omega arith, omega arith, omega arith, omega arith, omega arith, omega arith, omega arith, omega arith, omega arith)
 
 returns : tie.Need-returns
-returns c = c .before .before .before .before .before .before .before .before .before .before .before .before .before .before .before .before .before .before .before .tally-files .ensures
+returns c = c .before .before .before .before .before .before .before .before .before .before .before .before .before .before .before .before .before .before .tally-files .ensures
 
 pub tally-many-spec : {M : Type 1} → statement M
 tally-many-spec =
@@ -91,6 +89,5 @@ tally-many-spec =
     slice-aggregate-tally-files-16
     slice-aggregate-tally-files-17
     slice-aggregate-tally-files-18
-    slice-aggregate-tally-files-19
     tally-files-requires
     returns)

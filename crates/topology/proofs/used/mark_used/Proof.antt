@@ -1,65 +1,36 @@
--- `topology::used::mark_used` meets its contract. The loop's invariant: the records that the first `i` names find are in use.
+-- `topology::used::mark_used` meets its contract. The names are those of the column that was read.
 -- Assumes nothing.
-use Prim.Native.Nat.{_≤_, _-_}
-use Rattle.laws.specs.Find.{names}
-use Rattle.record.specs.Says.{tableOf}
-use Rattle.record.specs.Names.{nameAt}
-use Rattle.topology.specs.machinery.Used.{Used}
-use Rattle.topology.proofs.UsedLaws.{sought-below, used-start, used-more, used-end}
-use borrow.Author.Needs.{needs}
 use native.Mathlib.Omega.{arith}
+use Rattle.record.proofs.ColumnLaws.{read-fills}
+use Rattle.topology.proofs.UsedLaws.{used-filled}
+use borrow.Author.Needs.{needs}
 use Rattle.topology.proofs.used.mark_used.Statement.{statement}
 use Rattle.topology.proofs.used.mark_used.Tie as tie
 
-abbrev Inv-loop : tie.InvT-loop
-Inv-loop s k f ids order hints way n used₀ m i₀ used i = (i ≤ m) × Used ids order hints (way .hinted) n used₀ used (names (λ j. nameAt k (tableOf s k) j f) i)
+fill-names-requires : tie.Need-fill-names-requires
+fill-names-requires c κs = search needs
 
-abbrev μ-loop : tie.MeasureT-loop
-μ-loop s k f ids order hints way n used₀ m i₀ used i = m - i
+mark-named-requires : tie.Need-mark-named-requires
+mark-named-requires c κs =
+    let p = c .before .before .before .before .before .before .before .before .before .before .before .before .pre in
+    let f = read-fills (p .2) (c .before .before .before .before .fill-names .ensures) in
+    (p .0, p .1, omega (arith, f .count, f .long))
 
-rows-requires : tie.Need-rows-requires Inv-loop μ-loop
-rows-requires c κs = search needs
+same-length : tie.Need-same-length
+same-length c = search needs
 
-loop-holds : tie.Need-loop-holds Inv-loop μ-loop
-loop-holds c = (search needs, used-start _ _)
+same-length-2 : tie.Need-same-length-2
+same-length-2 c = search needs
 
-name-requires : tie.Need-name-requires Inv-loop μ-loop
-name-requires c κs = search needs
-
-look-requires : tie.Need-look-requires Inv-loop μ-loop
-look-requires c κs = c .before .before .before .before .before .before .before .before .before .pre .0
-
-put-requires : tie.Need-put-requires Inv-loop μ-loop
-put-requires c κs = sought-below _ _ _ _ (c .before .look .ensures .0) (omega (arith, c .before .before .before .before .before .before .before .before .before .before .before .pre .1, c .before .before .before .before .loop .inv .1 .long))
-
-add-i : tie.Need-add-i Inv-loop μ-loop
-add-i c = search needs
-
-loop-less : tie.Need-loop-less Inv-loop μ-loop
-loop-less c = search needs
-
-loop-again : tie.Need-loop-again Inv-loop μ-loop
-loop-again c = (search needs, used-more _ _ (c .before .before .before .before .before .before .before .loop .inv .1) (c .before .before .before .before .before .before .before .before .before .before .before .before .before .before .pre .1) (c .before .before .before .before .before .name .ensures .0) (c .before .before .before .before .look .ensures .0) (c .before .before .before .before .look .ensures .1) (c .before .before .put .ensures))
-
-same-length : tie.Need-same-length Inv-loop μ-loop
-same-length c = c .before .loop .inv .1 .long
-
-returns : tie.Need-returns Inv-loop μ-loop
-returns c = used-end _ _ (c .before .loop .inv .0) (c .loop-test .left) (c .before .before .rows .ensures .0) (c .before .loop .inv .1)
+returns : tie.Need-returns
+returns c = used-filled (read-fills (c .before .before .before .before .before .before .before .before .before .before .before .before .before .before .before .pre .2) (c .before .before .before .before .before .before .before .fill-names .ensures)) (c .before .before .mark-named .ensures)
 
 pub mark-used-spec : {M : Type 1} → statement M
 mark-used-spec =
     tie.close
     (tie.spec
-    Inv-loop
-    μ-loop
-    rows-requires
-    loop-holds
-    name-requires
-    look-requires
-    put-requires
-    add-i
-    loop-less
-    loop-again
+    fill-names-requires
+    mark-named-requires
     same-length
+    same-length-2
     returns)
