@@ -2,24 +2,23 @@
 -- and reasons of the tests in one list (judge's `testsOf`).
 -- Assumes nothing.
 use Prim.Native.Nat.{ℕ, zero, suc, _+_, _-_, _*_, _/_, _%_, _<_, _≤_, min}
-use mathlib.Core.Bool.{Bool, true, false, _&&_, and-false}
+use mathlib.Core.Bool.{Bool, false, _&&_, and-false}
 use mathlib.Core.List.{List, [], _∷_}
 use mathlib.Core.Path.{_≡_, refl, sym, ap, ap₂, _∙_}
 use native.Mathlib.Nat.{le-refl, mul-comm, div-le-of-le-mul}
 use native.Mathlib.Omega.{arith}
-use lib.Dec.{leb, eqb}
+use lib.Dec.{eqb}
 use lib.ListN.{length, getD, List·getD-eq-default}
 use borrow.Author.Tests.{le-leb, lt-leb, eq-eqb, ne-eqb, ltb-false}
 use Rattle.laws.specs.Find.{firstIndex}
 use Rattle.laws.specs.Count.{bit, howMany, sumOf}
 use Rattle.laws.specs.Nest.{many}
 use Rattle.laws.specs.Row.{pick}
+use Rattle.laws.proofs.CountLaws.{bit-most}
 use Rattle.laws.proofs.SumLaws.{sum-same, sum-plus, sum-none, sum-past, sum-after, sum-one, sum-swap, sum-tens, sum-most, count-sum}
-use Rattle.index.specs.declared.Found.{Found}
-use Rattle.index.specs.declared.Found.the-variants.{At, Nothing}
-use Rattle.index.specs.declared.tally.Tally.{Tally}
 use Rattle.index.specs.Keys.{foundOf}
-use Rattle.index.specs.Tally.{withCell, tallyOf}
+use Rattle.index.specs.Tally.{tallyOf}
+use Rattle.index.proofs.TallyLaws.{with-many}
 use Rattle.record.specs.declared.kind.Kind.{Kind}
 use Rattle.record.specs.Table.{fieldsOf, lengthOf, limit}
 use Rattle.record.specs.Cut.{countOf, recordOf}
@@ -93,14 +92,6 @@ cell-at tests i f u l =
     let a : (f * 10 + u) / 10 ≡ f = omega arith in
     let b : (f * 10 + u) % 10 ≡ u = omega arith in
     rw (a, b)
-
-with-many : (t : Tally) (f : Found) (m c : ℕ) → withCell t f m c .many ≡ t .many + m
-with-many t Nothing m c = refl
-with-many t (At i) m c = either (t .found && leb (t .at) i)
-  where
-    either : (b : Bool) → pick {A = Tally} b (record { found = t .found; at = t .at; cell = t .cell; many = t .many + m }) (record { found = true; at = i; cell = c; many = t .many + m }) .many ≡ t .many + m
-    either true = refl
-    either false = refl
 
 tally-sum : (test : ℕ → ℕ → Bool) (n c : ℕ) → tallyOf test n c .many ≡ sumOf (λ c. howMany (λ i. test i c) n) c
 unfolding tallyOf sumOf
@@ -206,10 +197,6 @@ tests-none files t k quiet =
     ∙ sum-none _ (countOf (files k) k + 2) (λ i _. sum-none _ (fieldsOf k + 1) (λ f _. sum-none _ 10 (λ u l. ap bit (quiet i f u l))))
 
 -- THE MOST breaks of a file that is not too long: a record has at most 14 fields and itself, each ten reasons
-bit-most : (b : Bool) → bit b ≤ 1
-bit-most true = omega arith
-bit-most false = omega arith
-
 pub file-most : (files : Files) (t : ℕ) (k : Kind) → breaks10 (files k) k ≡ false → many (breaksIn files t k) ≤ 2457900
 unfolding placed
 file-most files t k e =

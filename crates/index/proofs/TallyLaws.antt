@@ -11,7 +11,7 @@ use Rattle.laws.specs.Row.{pick}
 use Rattle.laws.specs.Find.{firstIndex}
 use Rattle.laws.specs.Count.{bit, howMany}
 use Rattle.laws.proofs.FindLaws.{index-none}
-use Rattle.laws.proofs.CountLaws.{count-none, count-same}
+use Rattle.laws.proofs.CountLaws.{count-none, count-same, count-most}
 use Rattle.index.specs.Keys.{foundOf}
 use Rattle.index.specs.Marks.{Marked, isMarked}
 use Rattle.index.specs.Tally.{noTally, withCell, tallyOf}
@@ -19,19 +19,6 @@ use Rattle.index.specs.declared.Found.{Found}
 use Rattle.index.specs.declared.Found.the-variants.{At, Nothing}
 use Rattle.index.specs.declared.tally.Tally.{Tally}
 use Rattle.index.proofs.MarkLaws.{marked-at, marked-first}
-
--- A LOOP THAT COUNTS
-bit-most : (t : Bool) → bit t ≤ 1
-bit-most true = omega arith
-bit-most false = omega arith
-
-pub count-most : (p : ℕ → Bool) (n : ℕ) → howMany p n ≤ n
-unfolding howMany
-count-most p zero = omega arith
-count-most p (suc n) = omega (arith, count-most p n, bit-most (p n))
-
-pub count-end : (p : ℕ → Bool) {i n m : ℕ} → i ≤ n → n ≤ i → m ≡ howMany p i → m ≡ howMany p n
-count-end p {i} {n} l u e = let q : i ≡ n = omega arith in rw q at e
 
 -- marks tell how often the test holds
 pub marked-many : {before marks : List ℕ} {test : ℕ → Bool} {n : ℕ} → Marked before marks test n → howMany (isMarked marks) n ≡ howMany test n
@@ -42,7 +29,7 @@ either-many : (b : Bool) (x y : Tally) {m : ℕ} → x .many ≡ m → y .many �
 either-many true x y e h = e
 either-many false x y e h = h
 
-with-many : (t : Tally) (f : Found) (m c : ℕ) → withCell t f m c .many ≡ t .many + m
+pub with-many : (t : Tally) (f : Found) (m c : ℕ) → withCell t f m c .many ≡ t .many + m
 with-many t Nothing m c = refl
 with-many t (At i) m c = either-many (t .found && leb (t .at) i) _ _ refl refl
 

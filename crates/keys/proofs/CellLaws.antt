@@ -17,7 +17,7 @@ use Rattle.laws.specs.Find.{hit, firstOf, firstIndex}
 use Rattle.laws.specs.Row.{pick}
 use Rattle.laws.proofs.FindLaws.{true-false, hit-some, hit-none, none-at, some-at, first-none, first-here, index-same, index-none-at, index-some-at}
 use Rattle.laws.specs.Count.{howMany}
-use Rattle.laws.proofs.CountLaws.{count-same}
+use Rattle.laws.proofs.CountLaws.{count-same, count-most}
 use Rattle.index.specs.declared.Found.{Found}
 use Rattle.index.specs.declared.Found.the-variants.{At, Nothing}
 use Rattle.index.specs.declared.tally.Tally.{Tally}
@@ -25,7 +25,7 @@ use Rattle.index.specs.Keys.{foundOf}
 use Rattle.index.specs.Marks.{Marked, isMarked}
 use Rattle.index.specs.Tally.{noTally, withCell, tallyOf}
 use Rattle.index.proofs.MarkLaws.{marked-as, marked-first}
-use Rattle.index.proofs.TallyLaws.{count-most, marked-many, tally-start, tally-more, tally-marks, tally-skip, tally-most}
+use Rattle.index.proofs.TallyLaws.{marked-many, tally-start, tally-more, tally-marks, tally-skip, tally-most}
 use Rattle.record.specs.declared.kind.Kind.{Kind}
 use Rattle.record.specs.declared.reason.Reason.the-variants.{LongFile10}
 use Rattle.record.specs.declared.reason.Break.{Break}

@@ -35,6 +35,16 @@ count-more p n = rw add-one
 pub count-end : (p : ℕ → Bool) {i n m : ℕ} → i ≤ n → n ≤ i → m ≡ howMany p i → m ≡ howMany p n
 count-end p {i} {n} l u e = let q : i ≡ n = omega arith in rw q at e
 
+-- it is at most all
+pub bit-most : (t : Bool) → bit t ≤ 1
+bit-most true = omega arith
+bit-most false = omega arith
+
+pub count-most : (p : ℕ → Bool) (n : ℕ) → howMany p n ≤ n
+unfolding howMany
+count-most p zero = omega arith
+count-most p (suc n) = omega (arith, count-most p n, bit-most (p n))
+
 -- OF NOTHING: a test that holds nowhere counts 0, and one that counts 0 holds nowhere
 pub count-none : (p : ℕ → Bool) (n : ℕ) → ((k : ℕ) → k < n → p k ≡ false) → howMany p n ≡ 0
 unfolding howMany

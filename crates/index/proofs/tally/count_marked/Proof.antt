@@ -5,9 +5,8 @@ use mathlib.Core.Path.{_≡_, refl}
 use native.Mathlib.Omega.{arith}
 use borrow.Author.Needs.{needs}
 use Rattle.laws.specs.Count.{howMany}
-use Rattle.laws.proofs.CountLaws.{count-more}
+use Rattle.laws.proofs.CountLaws.{count-more, count-end}
 use Rattle.index.specs.Marks.{isMarked}
-use Rattle.index.proofs.TallyLaws.{count-end}
 use Rattle.index.proofs.tally.count_marked.Statement.{statement}
 use Rattle.index.proofs.tally.count_marked.Tie as tie
 
