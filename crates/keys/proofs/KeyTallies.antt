@@ -15,6 +15,7 @@ use Rattle.laws.specs.Find.{names}
 use Rattle.laws.specs.Count.{howMany}
 use Rattle.laws.specs.Row.{row, each}
 use Rattle.laws.proofs.FindLaws.{true-false}
+use Rattle.laws.proofs.RowLaws.{and-true}
 use Rattle.index.specs.declared.Found.{Found}
 use Rattle.index.specs.declared.tally.Tally.{Tally}
 use Rattle.index.specs.Keys.{foundOf, listed, firstDuplicate}
@@ -22,7 +23,7 @@ use Rattle.index.specs.Marks.{Marked, isMarked}
 use Rattle.index.specs.Tally.{noTally, withCell}
 use Rattle.index.proofs.TallyLaws.{marked-many}
 use Rattle.record.specs.declared.kind.Kind.{Kind}
-use Rattle.record.specs.declared.kind.Kind.the-variants.{Catalogo}
+use Rattle.record.specs.declared.kind.Kind.the-variants.{Catalogo, Nodo}
 use Rattle.record.specs.declared.kind.Which.{Which}
 use Rattle.record.specs.declared.kind.Target.{Target}
 use Rattle.record.specs.declared.kind.Target.the-variants.{Free, Nowhere, To}
@@ -39,9 +40,12 @@ use Rattle.record.specs.machinery.Columns.{Fills}
 use Rattle.record.proofs.FileLaws.{inside}
 use Rattle.record.proofs.TableLaws.{every, everywhere, every-place, past, sane, kind-at, file-same}
 use Rattle.keys.specs.machinery.Groups.{Tests, cellsOf}
-use Rattle.keys.specs.Rules.{repeats, breaks30, dangles, breaks40, mistyped, refersToCatalogue, breaks41, keyTests, keyReasons}
+use Rattle.keys.specs.Rules.{repeats, breaks30, dangles, breaks40, refersToCatalogue, breaks41, keyTests, keyReasons}
 use Rattle.keys.specs.machinery.Findings.{keysIn}
 use Rattle.keys.specs.machinery.Cells.{tallyIn, TalliedTo, OneMore, TwoMore, repeatTests, keyTally, tallyAt, keyTallies}
+use Rattle.keys.specs.machinery.Lent.{refersToNodes}
+use Rattle.keys.specs.machinery.Types.{Letters, mistypedBy}
+use Rattle.keys.proofs.ReferLaws.{dangles-filled, mistyped-column}
 use Rattle.keys.proofs.RepeatLaws.{first-filled, repeats-filled}
 use Rattle.keys.proofs.KeyCells.{other-default, other-ten, free-tests}
 use Rattle.keys.proofs.CellLaws.{one-by, tallied-one, tallied-rest, tallied-start, tallied-skip, tallied-end, tallied-most, tally-row, tally-broken, tally-fine}
@@ -106,6 +110,13 @@ code-target Nowhere h r = absurd (true-false (sym r))
 code-target (To k g) h r =
     ap₂ (λ (j : Kind) (x : ℕ). To j x) (file-same k Catalogo (eqb-true _ _ r)) (eqb-true g 1 (sym (ap (λ (b : Bool). not b || eqb g 1) r) ∙ h))
 
+nodes-target : (t : Target) → refersToNodes t ≡ true → t ≡ To Nodo 1
+nodes-target Free r = absurd (true-false (sym r))
+nodes-target Nowhere r = absurd (true-false (sym r))
+nodes-target (To k g) r =
+    let p = and-true (eqb (fileOf k) (fileOf Nodo)) (eqb g 1) r in
+    ap₂ (λ (j : Kind) (x : ℕ). To j x) (file-same k Nodo (eqb-true _ _ (p .0))) (eqb-true g 1 (p .1))
+
 -- fields that have no test from a reason on
 module _ (d : Delivery) (k : Kind) (f : ℕ) where
   past-41 : (i v : ℕ) → 2 ≤ v → getD (keyTests 4 d k i f) v false ≡ false
@@ -145,16 +156,30 @@ module _ (files : Files) (k : Kind) (f : ℕ) {target : Target} (q : target ≡ 
     unfolding keyTests breaks40
     field-to h w u s = one-cell h (rw e same) (λ i. rw (e, ← q, w, u)) s
 
-    -- a CODIGO: two
-    pub field-codes : {cat : List ℕ} {wanted : ℕ} → refersToCatalogue target ≡ true → cat ≡ files Catalogo → wanted ≡ letterOf k
-        → TwoMore t (λ i. dangles (λ j. nameAt Catalogo (tableOf cat Catalogo) j 1) (tableOf cat Catalogo .count) (nameAt k (tableOf own k) i f)) (λ i. mistyped wanted (tableOf cat Catalogo) (nameAt k (tableOf own k) i f)) (tableOf own k .count) (f * 10) r
+    -- to the nodes, whose ids are in hand
+    pub field-nodes : {ids : List ℕ} {m : ℕ} → refersToCatalogue target ≡ false → refersToNodes target ≡ true
+        → Fills ids (λ j. nameAt Nodo (deliveryOf files Nodo) j 1) (deliveryOf files Nodo .count) m
+        → OneMore t (λ i. dangles (listed ids) m (nameAt k (tableOf own k) i f)) (tableOf own k .count) (f * 10) r
+        → TalliedTo (keyTests 4 (deliveryOf files) k) n (f * 10 + 10) r
+    unfolding keyTests breaks40
+    field-nodes h u fills s =
+        let w : target ≡ To Nodo 1 = nodes-target target u in
+        one-cell h (rw e same) (λ i. dangles-filled fills (nameAt k (tableOf own k) i f) ∙ rw (e, ← q, w)) s
+
+    -- a CODIGO, with the catalogue in hand: two
+    pub field-codes : {codes letters : List ℕ} {m wanted : ℕ} → refersToCatalogue target ≡ true
+        → Fills codes (λ j. nameAt Catalogo (deliveryOf files Catalogo) j 1) (deliveryOf files Catalogo .count) m
+        → Letters letters (deliveryOf files Catalogo) m → wanted ≡ letterOf k
+        → TwoMore t (λ i. dangles (listed codes) m (nameAt k (tableOf own k) i f)) (λ i. mistypedBy codes letters m wanted (nameAt k (tableOf own k) i f)) (tableOf own k .count) (f * 10) r
         → TalliedTo (keyTests 4 (deliveryOf files) k) n (f * 10 + 10) r
     unfolding keyTests breaks40 breaks41
-    field-codes h u v s =
+    field-codes {wanted = wanted} h fills typed v s =
         let w : targetOf k f ≡ To Catalogo 1 = code-target (targetOf k f) (by-code k f) (ap refersToCatalogue (sym q) ∙ h) in
         tallied-rest _ n f 2 (omega arith) (omega arith) (past-41 (deliveryOf files) k f)
-        (tallied-one _ n f 1 refl (omega arith) (rw e same) (λ i. rw (e, w, u, v)) (s .second)
-        (tallied-one _ n f 0 (omega arith) (omega arith) (rw e same) (λ i. rw (e, w, u)) (s .first) b))
+        (tallied-one _ n f 1 refl (omega arith) (rw e same)
+        (λ i. mistyped-column (deliveryOf files Catalogo) fills typed wanted (nameAt k (tableOf own k) i f) ∙ rw (e, w, v)) (s .second)
+        (tallied-one _ n f 0 (omega arith) (omega arith) (rw e same)
+        (λ i. dangles-filled fills (nameAt k (tableOf own k) i f) ∙ rw (e, w)) (s .first) b))
 
 -- a field's tally counts little, so that it can go on
 pub field-small :

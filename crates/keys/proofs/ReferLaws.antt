@@ -5,13 +5,13 @@ use mathlib.Core.Bool.{Bool, true, false, not, _&&_}
 use mathlib.Core.List.{List}
 use mathlib.Core.Option.{none}
 use mathlib.Core.Logic.{⊎-elim}
-use mathlib.Core.Path.{_≡_, refl, sym, ap, _∙_}
+use mathlib.Core.Path.{_≡_, refl, sym, ap, ap₂, _∙_}
 use native.Mathlib.Omega.{arith}
 use native.Mathlib.Decide.{ℕ-discrete}
 use lib.Dec.{eqb}
 use lib.ListN.{length, getD}
 use borrow.Author.Tests.{eq-eqb, ne-eqb}
-use Rattle.laws.specs.Find.{firstIndex, names}
+use Rattle.laws.specs.Find.{firstIndex, any, names}
 use Rattle.laws.proofs.FindLaws.{true-false, index-none, index-none-at, any-same, any-true, any-false, any-no}
 use Rattle.index.specs.Keys.{listed, firstDuplicate}
 use Rattle.index.specs.Look.{Sought}
@@ -22,11 +22,12 @@ use Rattle.index.proofs.OrderLaws.{less-or}
 use Rattle.index.proofs.LookLaws.{sought-record, sought-yes, sought-none}
 use Rattle.record.specs.declared.kind.Kind.the-variants.{Catalogo}
 use Rattle.record.specs.Table.{limit}
-use Rattle.record.specs.Says.{Table, letterIn}
+use Rattle.record.specs.Says.{Table}
 use Rattle.record.specs.machinery.Columns.{Fills}
 use Rattle.record.specs.Names.{nameAt}
 use Rattle.keys.specs.Rules.{dangles, typedIn, mistyped}
 use Rattle.keys.specs.machinery.Cells.{OneMore}
+use Rattle.keys.specs.machinery.Types.{Letters, typedBy, mistypedBy, isMissed}
 use Rattle.keys.proofs.CellLaws.{one-as}
 
 -- A NAME that dangles, where r is whether a record has it
@@ -76,42 +77,62 @@ apart-one key n d {i} {j} l u e =
 apart-two : (key : ℕ → ℕ) (n : ℕ) → firstDuplicate key n ≡ none → {i j : ℕ} → i < n → j < n → (i ≡ j → ⊥) → key i ≡ key j → ⊥
 apart-two key n d {i} {j} a b ne e = ⊎-elim (λ (l : i < j). apart-one key n d l b e) (λ (l : j ≤ i). apart-one key n d (omega (arith, l, ne)) a (sym e)) (less-or i j)
 
+and-one : (t : Bool) → (t && true) ≡ t
+and-one true = refl
+and-one false = refl
+
 pub and-false : (t : Bool) → (t && false) ≡ false
 and-false true = refl
 and-false false = refl
 
--- A CODE of another type than the one wanted, where f is what a look-up of the code says
-module _ (cat : Table) {keys : List ℕ} {n : ℕ} (fills : Fills keys (λ j. nameAt Catalogo cat j 1) (cat .count) n) (wanted x : ℕ) {f : Found} (s : Sought keys n x f) where
-  pub mistyped-none : f ≡ Nothing → false ≡ mistyped wanted cat x
-  unfolding mistyped
-  mistyped-none e = rw (← names-column fills x, ← sought-none keys n x s e)
+-- A NAME that was looked up dangles where it isn't missing and was not found
+pub missed-dangles : (keys : List ℕ) (n x : ℕ) (f : Found) → Sought keys n x f → isMissed f x ≡ dangles (listed keys) n x
+unfolding dangles
+missed-dangles keys n x Nothing s = rw (← sought-none keys n x s refl) (sym (and-one (not (eqb x 0))))
+missed-dangles keys n x (At j) s = rw (← sought-yes keys n x s refl) (sym (and-false (not (eqb x 0))))
 
-  pub mistyped-found : {j : ℕ} → f ≡ At j → mistyped wanted cat x ≡ not (typedIn wanted cat x)
-  unfolding mistyped
-  mistyped-found e = rw (← names-column fills x, ← sought-yes keys n x s e)
+-- A CODE of another type than the one wanted, by the columns of codes and letters, where f is what a look-up of the code says
+module _ (keys letters : List ℕ) (n wanted x : ℕ) {f : Found} (s : Sought keys n x f) where
+  pub mistyped-none : f ≡ Nothing → false ≡ mistypedBy keys letters n wanted x
+  unfolding mistypedBy
+  mistyped-none e = rw (← sought-none keys n x s e)
 
-  pub typed-found : {j : ℕ} → f ≡ At j → letterIn (cat .says j 2) ≡ wanted → typedIn wanted cat x ≡ true
-  unfolding typedIn
+  pub mistyped-found : {j : ℕ} → f ≡ At j → mistypedBy keys letters n wanted x ≡ not (typedBy keys letters n wanted x)
+  unfolding mistypedBy
+  mistyped-found e = rw (← sought-yes keys n x s e)
+
+  typed-found : {j : ℕ} → f ≡ At j → getD letters j 0 ≡ wanted → typedBy keys letters n wanted x ≡ true
+  unfolding typedBy
   typed-found {j} e h =
       let r = sought-record keys n x s e in
-      let u : j < cat .count = omega (arith, fills .count) in
-      any-true _ _ u (rw (← fills .holds j u, eq-eqb (getD keys j 0) x (r .1), eq-eqb _ _ h))
+      any-true _ _ (r .0) (rw (eq-eqb (getD keys j 0) x (r .1), eq-eqb _ _ h))
 
-  pub mistyped-typed : {j : ℕ} → f ≡ At j → letterIn (cat .says j 2) ≡ wanted → false ≡ mistyped wanted cat x
+  pub mistyped-typed : {j : ℕ} → f ≡ At j → getD letters j 0 ≡ wanted → false ≡ mistypedBy keys letters n wanted x
   mistyped-typed e h = rw (mistyped-found e, typed-found e h)
 
   -- where keys are apart, the record that is found is the only one with the code
-  typed-only : {j : ℕ} → f ≡ At j → firstDuplicate (listed keys) n ≡ none → (letterIn (cat .says j 2) ≡ wanted → ⊥) → typedIn wanted cat x ≡ false
-  unfolding typedIn
-  typed-only {j} e d h = any-false _ (cat .count) (λ i u. go i u (ℕ-discrete i j))
+  typed-only : {j : ℕ} → f ≡ At j → firstDuplicate (listed keys) n ≡ none → (getD letters j 0 ≡ wanted → ⊥) → typedBy keys letters n wanted x ≡ false
+  unfolding typedBy
+  typed-only {j} e d h = any-false _ n (λ i u. go i u (ℕ-discrete i j))
     where
-      go : (i : ℕ) → i < cat .count → Dec (i ≡ j) → (eqb (nameAt Catalogo cat i 1) x && eqb (letterIn (cat .says i 2)) wanted) ≡ false
-      go i u (yes q) = rw (q, ne-eqb (letterIn (cat .says j 2)) wanted h) (and-false (eqb (nameAt Catalogo cat j 1) x))
+      go : (i : ℕ) → i < n → Dec (i ≡ j) → (eqb (getD keys i 0) x && eqb (getD letters i 0) wanted) ≡ false
+      go i u (yes q) = rw (q, ne-eqb (getD letters j 0) wanted h) (and-false (eqb (getD keys j 0) x))
       go i u (no q) =
           let r = sought-record keys n x s e in
-          rw
-          (ne-eqb (nameAt Catalogo cat i 1) x
-          (λ w. apart-two (listed keys) n d (omega (arith, fills .count)) (r .0) q (fills .holds i u ∙ w ∙ sym (r .1))))
+          rw (ne-eqb (getD keys i 0) x (λ w. apart-two (listed keys) n d u (r .0) q (w ∙ sym (r .1))))
 
-  pub mistyped-apart : {j : ℕ} → f ≡ At j → firstDuplicate (listed keys) n ≡ none → (letterIn (cat .says j 2) ≡ wanted → ⊥) → true ≡ mistyped wanted cat x
+  pub mistyped-apart : {j : ℕ} → f ≡ At j → firstDuplicate (listed keys) n ≡ none → (getD letters j 0 ≡ wanted → ⊥) → true ≡ mistypedBy keys letters n wanted x
   mistyped-apart e d h = rw (mistyped-found e, typed-only e d h)
+
+-- and by the catalogue, which the columns are read of
+module _ (cat : Table) {keys letters : List ℕ} {n : ℕ} (fills : Fills keys (λ j. nameAt Catalogo cat j 1) (cat .count) n) (typed : Letters letters cat n) (wanted x : ℕ) where
+  typed-column : typedBy keys letters n wanted x ≡ typedIn wanted cat x
+  unfolding typedBy typedIn
+  typed-column =
+      ap (any (λ j. eqb (getD keys j 0) x && eqb (getD letters j 0) wanted)) (fills .count)
+      ∙ any-same _ _ (cat .count)
+      (λ j u. ap₂ (λ (a b : ℕ). eqb a x && eqb b wanted) (fills .holds j u) (typed .each j (omega (arith, fills .count))))
+
+  pub mistyped-column : mistypedBy keys letters n wanted x ≡ mistyped wanted cat x
+  unfolding mistypedBy mistyped
+  mistyped-column = ap₂ (λ (a b : Bool). a && not b) (names-column fills x) typed-column

@@ -4,16 +4,19 @@
 use Prim.Native.Nat.{ℕ, _+_, _<_, _≤_}
 use mathlib.Core.Bool.{Bool, true, false, not, _&&_, _||_}
 use mathlib.Core.List.{List}
-use mathlib.Core.Path.{_≡_, refl, sym, ap, ap₂, subst, _∙_}
+use mathlib.Core.Option.{none}
+use mathlib.Core.Path.{_≡_, refl, sym, ap, subst, _∙_}
 use native.Mathlib.Decide.{ℕ-discrete}
 use native.Mathlib.Omega.{arith}
 use lib.Dec.{eqb}
 use lib.ListN.{length, getD, set, length-set}
 use lib.Seq.{getD-set-same, getD-set-other}
+use borrow.Author.Count.{below-none, below-more}
 use borrow.Author.Tests.{eq-eqb, ne-eqb, eqb-true}
 use Rattle.laws.specs.Find.{any}
 use Rattle.laws.specs.Count.{bit}
-use Rattle.laws.proofs.FindLaws.{true-false, any-more, any-same, any-true, any-false}
+use Rattle.laws.proofs.FindLaws.{true-false, any-more, any-true, any-false}
+use Rattle.index.specs.Keys.{listed, firstDuplicate}
 use Rattle.index.specs.Look.{Sought}
 use Rattle.index.specs.Marks.{Marked}
 use Rattle.index.specs.Way.{lookOf, orZero}
@@ -21,13 +24,9 @@ use Rattle.index.specs.declared.Found.{Found}
 use Rattle.index.specs.declared.Found.the-variants.{At, Nothing}
 use Rattle.index.specs.declared.way.Way.{Way}
 use Rattle.index.proofs.LookLaws.{sought-record}
-use Rattle.record.specs.declared.kind.Kind.the-variants.{Catalogo}
 use Rattle.record.specs.Says.{Table, letterIn}
-use Rattle.record.specs.machinery.Columns.{Fills}
-use Rattle.record.specs.Names.{nameAt}
-use Rattle.keys.specs.Rules.{typedIn, mistyped}
-use Rattle.keys.specs.machinery.Types.{Typing, Types}
-use Rattle.keys.proofs.ReferLaws.{and-false, mistyped-found}
+use Rattle.keys.specs.machinery.Types.{Letters, typedBy, mistypedBy, isOther, Typing, Types}
+use Rattle.keys.proofs.ReferLaws.{and-false, mistyped-none, mistyped-found, mistyped-typed, mistyped-apart}
 
 or-true : (t : Bool) → (t || true) ≡ true
 or-true true = refl
@@ -124,31 +123,64 @@ module _ (keys order hints : List ℕ) (way : Way) (n : ℕ) (test : ℕ → Boo
       }
 
 -- A CODE, where f is what a look-up of it says: the mark of the record that is found is whether the code is catalogued under the type
-module _ (cat : Table) {keys : List ℕ} {n : ℕ} (fills : Fills keys (λ j. nameAt Catalogo cat j 1) (cat .count) n) (wanted x : ℕ) {f : Found} (q : Sought keys n x f) {order hints types : List ℕ} {t : Bool}
-    (w : f ≡ lookOf keys order hints t n x) (s : Typing keys order hints t n (λ j. eqb (letterIn (cat .says j 2)) wanted) types n) {r : ℕ} (e : f ≡ At r) where
+module _ (keys letters : List ℕ) {n : ℕ} (wanted x : ℕ) {f : Found} (q : Sought keys n x f) {order hints types : List ℕ} {t : Bool}
+    (w : f ≡ lookOf keys order hints t n x) (s : Typing keys order hints t n (λ j. eqb (getD letters j 0) wanted) types n) {r : ℕ} (e : f ≡ At r) where
   record-of : (r < n) × (getD keys r 0 ≡ x)
   record-of = sought-record keys n x q e
 
-  typed-column : typedIn wanted cat x ≡ any (λ j. eqb (getD keys j 0) (getD keys r 0) && eqb (letterIn (cat .says j 2)) wanted) n
-  unfolding typedIn
-  typed-column =
-      any-same _ (λ j. eqb (getD keys j 0) (getD keys r 0) && eqb (letterIn (cat .says j 2)) wanted) (cat .count)
-      (λ j u. sym (ap₂ (λ (a b : ℕ). eqb a b && eqb (letterIn (cat .says j 2)) wanted) (fills .holds j u) (record-of .1)))
-      ∙ ap (any (λ j. eqb (getD keys j 0) (getD keys r 0) && eqb (letterIn (cat .says j 2)) wanted)) (sym (fills .count))
+  typed-column : typedBy keys letters n wanted x ≡ any (λ j. eqb (getD keys j 0) (getD keys r 0) && eqb (getD letters j 0) wanted) n
+  unfolding typedBy
+  typed-column = ap (λ (y : ℕ). any (λ j. eqb (getD keys j 0) y && eqb (getD letters j 0) wanted) n) (sym (record-of .1))
 
-  untyped : (eqb (getD types r 0) 1 ≡ true → ⊥) → typedIn wanted cat x ≡ false
-  unfolding typedIn
-  untyped d = any-false _ (cat .count) (λ j u. go j u (ℕ-discrete (nameAt Catalogo cat j 1) x) (eqb (letterIn (cat .says j 2)) wanted) refl)
+  untyped : (eqb (getD types r 0) 1 ≡ true → ⊥) → typedBy keys letters n wanted x ≡ false
+  unfolding typedBy
+  untyped d = any-false _ n (λ j u. go j u (ℕ-discrete (getD keys j 0) x) (eqb (getD letters j 0) wanted) refl)
     where
-      go : (j : ℕ) → j < cat .count → Dec (nameAt Catalogo cat j 1 ≡ x) → (b : Bool) → eqb (letterIn (cat .says j 2)) wanted ≡ b → (eqb (nameAt Catalogo cat j 1) x && b) ≡ false
-      go j u (no h) b y = rw (ne-eqb (nameAt Catalogo cat j 1) x h)
-      go j u (yes h) false y = and-false (eqb (nameAt Catalogo cat j 1) x)
-      go j u (yes h) true y =
-          absurd (d (eq-eqb _ _ (s .whole j r (omega (arith, fills .count)) y (ap (lookOf keys order hints t n) (fills .holds j u ∙ h) ∙ sym w ∙ e))))
+      go : (j : ℕ) → j < n → Dec (getD keys j 0 ≡ x) → (b : Bool) → eqb (getD letters j 0) wanted ≡ b → (eqb (getD keys j 0) x && b) ≡ false
+      go j u (no h) b y = rw (ne-eqb (getD keys j 0) x h)
+      go j u (yes h) false y = and-false (eqb (getD keys j 0) x)
+      go j u (yes h) true y = absurd (d (eq-eqb _ _ (s .whole j r u y (ap (lookOf keys order hints t n) h ∙ sym w ∙ e))))
 
-  typed-marked : (b : Bool) → eqb (getD types r 0) 1 ≡ b → b ≡ typedIn wanted cat x
+  typed-marked : (b : Bool) → eqb (getD types r 0) 1 ≡ b → b ≡ typedBy keys letters n wanted x
   typed-marked true h = sym (typed-column ∙ s .sound r (record-of .0) (eqb-true _ _ h))
   typed-marked false h = sym (untyped (λ y. true-false (sym y ∙ h)))
 
-  pub mistyped-marked : not (eqb (getD types r 0) 1) ≡ mistyped wanted cat x
-  mistyped-marked = ap not (typed-marked (eqb (getD types r 0) 1) refl) ∙ sym (mistyped-found cat fills wanted x q e)
+  mistyped-marked : not (eqb (getD types r 0) 1) ≡ mistypedBy keys letters n wanted x
+  mistyped-marked = ap not (typed-marked (eqb (getD types r 0) 1) refl) ∙ sym (mistyped-found keys letters n wanted x q e)
+
+-- and so does the code's own record, where it has the type or is the only one
+pub other-mistyped :
+    (keys letters order hints : List ℕ) (way : Way) (n wanted x : ℕ) (f : Found) {types : List ℕ} → Sought keys n x f
+    → f ≡ lookOf keys order hints (way .hinted) n x → (way .apart ≡ true → firstDuplicate (listed keys) n ≡ none)
+    → Types keys order hints way n (λ j. eqb (getD letters j 0) wanted) types → isOther f letters (way .apart) types wanted ≡ mistypedBy keys letters n wanted x
+other-mistyped keys letters order hints way n wanted x Nothing q w d s = mistyped-none keys letters n wanted x q refl
+other-mistyped keys letters order hints way n wanted x (At r) {types} q w d s = own (ℕ-discrete (getD letters r 0) wanted)
+  where
+    only : (b : Bool) → way .apart ≡ b → (getD letters r 0 ≡ wanted → ⊥) → (b || not (eqb (getD types r 0) 1)) ≡ mistypedBy keys letters n wanted x
+    only true e h = mistyped-apart keys letters n wanted x q refl (d e) h
+    only false e h = mistyped-marked keys letters wanted x q w (s .typing e) refl
+
+    own :
+        Dec (getD letters r 0 ≡ wanted)
+        → (not (eqb (getD letters r 0) wanted) && (way .apart || not (eqb (getD types r 0) 1))) ≡ mistypedBy keys letters n wanted x
+    own (yes h) = rw (eq-eqb (getD letters r 0) wanted h) (mistyped-typed keys letters n wanted x q refl h)
+    own (no h) = rw (ne-eqb (getD letters r 0) wanted h) (only (way .apart) refl h)
+
+-- LETTERS, read one by one: none is, one more is, all are
+pub record Spelt (cat : Table) (out : List ℕ) (j : ℕ) : Type 0 where
+  pub each : (i : ℕ) → i < j → getD out i 0 ≡ letterIn (cat .says i 2)
+
+pub spelt-start : (cat : Table) (out : List ℕ) → Spelt cat out 0
+spelt-start cat out = record { each = below-none _ }
+
+pub spelt-more : {cat : Table} {out : List ℕ} {j x : ℕ} → j < length out → x ≡ letterIn (cat .says j 2) → Spelt cat out j → Spelt cat (set out j x) (j + 1)
+spelt-more {cat} {out} {j} {x} l e s =
+    record {
+      each =
+          below-more (λ (i : ℕ). getD (set out j x) i 0 ≡ letterIn (cat .says i 2)) j
+          (λ i li. getD-set-other out j i x 0 (λ (q : i ≡ j). omega arith) ∙ s .each i li)
+          (getD-set-same out j x 0 l ∙ e);
+    }
+
+pub letters-end : {cat : Table} {out : List ℕ} {j n : ℕ} → n ≤ j → n ≤ length out → Spelt cat out j → Letters out cat n
+letters-end le room s = record { long = room; each = λ i l. s .each i (omega arith) }

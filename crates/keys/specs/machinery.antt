@@ -1,5 +1,5 @@
 pub mod Groups
 pub mod Findings
 pub mod Cells
-pub mod Lent
 pub mod Types
+pub mod Lent

@@ -2,9 +2,11 @@
 // tallied by cells, ten a field, one for each reason.
 //
 // Columns are read into arrays that are lent: short ones where no file has more than a few records, so that a small delivery clears no
-// long ones. The catalogue's codes are read and prepared once, for all files.
+// long ones. The catalogue's codes and letters and the ids of the nodes are read and prepared once, for all files.
+use crate::refer::fill_letters;
 use crate::refer::tally_codes;
 use crate::refer::tally_dangling;
+use crate::refer::tally_known;
 use crate::refer::tally_present;
 use crate::repeat::tally_repeats;
 use index::FEW_HINTS;
@@ -45,7 +47,8 @@ ghost use Rattle.keys.specs.Rules.{keyTests, keyReasons, refersToCatalog
 ghost use Rattle.keys.specs.machinery.Findings.{keysIn, keysFinding};
 ghost use Rattle.keys.specs.machinery.Groups.{atFile};
 ghost use Rattle.keys.specs.machinery.Cells.{TalliedTo, keyTally, tallyAt, keyTallies};
-ghost use Rattle.keys.specs.machinery.Lent.{Lent, Catalogued, AtHand};
+ghost use Rattle.keys.specs.machinery.Lent.{Lent, Prepared, AtHand, refersToNodes};
+ghost use Rattle.keys.specs.machinery.Types.{Letters};
 
 fn refers_to_catalogue(t: Target) -> bool
     ensures { λ r. ⌜ r ≡ refersToCatalogue t ⌝ }
@@ -57,38 +60,54 @@ fn refers_to_catalogue(t: Target) -> bool
     }
 }
 
+fn refers_to_nodes(t: Target) -> bool
+    ensures { λ r. ⌜ r ≡ refersToNodes t ⌝ }
+{
+    match t {
+        Target::Free => false,
+        Target::Nowhere => false,
+        Target::To(other, g) => (other.number() == Kind::Nodo.number()) & (g == 1),
+    }
+}
+
 // 40 and 41 at field f of file k: ten cells more, by what the field refers to.
 fn tally_field<'a, 'b>(
     t: Tally,
     k: Kind,
     f: usize,
     files: [&'a [u8]; FILES],
+    letters: &'b [u8],
     codes: &'b [u64],
     code_order: &'b [usize],
     code_hints: &'b [u16],
     way: Way,
     n: usize,
+    ids: &'b [u64],
+    id_order: &'b [usize],
+    id_hints: &'b [u16],
+    by: Way,
+    m: usize,
     refs: &mut [u64],
     names: &mut [u64],
     hints: &mut [u16],
     order: &mut [usize],
     types: &mut [u8],
+    others: &mut [u8],
     marks: &mut [u8],
 ) -> Tally
-    requires { ⌜ (f ≤ fieldsOf k) × TalliedTo (keyTests 4 (deliveryOf (filesOf (map now files))) k) (deliveryOf (filesOf (map now files)) k .count) (f * 10) t × Catalogued (deliveryOf (filesOf (map now files))) (now codes) (now «code_order») (now «code_hints») way n × Lent (deliveryOf (filesOf (map now files))) (now refs) (now names) (now order) (now types) (now marks) ⌝ }
+    requires { ⌜ (f ≤ fieldsOf k) × TalliedTo (keyTests 4 (deliveryOf (filesOf (map now files))) k) (deliveryOf (filesOf (map now files)) k .count) (f * 10) t × Prepared (deliveryOf (filesOf (map now files))) (now letters) (now codes) (now «code_order») (now «code_hints») way n (now ids) (now «id_order») (now «id_hints») by m × Lent (deliveryOf (filesOf (map now files))) (now refs) (now names) (now order) (now types) (now others) (now marks) ⌝ }
     ensures { λ r. ⌜ TalliedTo (keyTests 4 (deliveryOf (filesOf (map now (files .entry)))) k) (deliveryOf (filesOf (map now (files .entry))) k .count) (f * 10 + 10) r ⌝ }
 {
     let own = file_of(files, k);
     let target = k.target(f);
     if refers_to_catalogue(target) {
-        let cat = file_of(files, Kind::Catalogo);
         let wanted = k.letter();
         return tally_codes(
             t,
             own,
             k,
             f,
-            cat,
+            letters,
             codes,
             code_order,
             code_hints,
@@ -98,6 +117,23 @@ fn tally_field<'a, 'b>(
             f * 10,
             refs,
             types,
+            others,
+            marks,
+        );
+    }
+    if refers_to_nodes(target) {
+        return tally_known(
+            t,
+            own,
+            k,
+            f,
+            ids,
+            id_order,
+            id_hints,
+            by,
+            m,
+            f * 10,
+            refs,
             marks,
         );
     }
@@ -129,19 +165,26 @@ fn tally_field<'a, 'b>(
 fn tally_fields<'a, 'b>(
     k: Kind,
     files: [&'a [u8]; FILES],
+    letters: &'b [u8],
     codes: &'b [u64],
     code_order: &'b [usize],
     code_hints: &'b [u16],
     way: Way,
     n: usize,
+    ids: &'b [u64],
+    id_order: &'b [usize],
+    id_hints: &'b [u16],
+    by: Way,
+    m: usize,
     refs: &mut [u64],
     names: &mut [u64],
     hints: &mut [u16],
     order: &mut [usize],
     types: &mut [u8],
+    others: &mut [u8],
     marks: &mut [u8],
 ) -> Tally
-    requires { ⌜ Catalogued (deliveryOf (filesOf (map now files))) (now codes) (now «code_order») (now «code_hints») way n × Lent (deliveryOf (filesOf (map now files))) (now refs) (now names) (now order) (now types) (now marks) ⌝ }
+    requires { ⌜ Prepared (deliveryOf (filesOf (map now files))) (now letters) (now codes) (now «code_order») (now «code_hints») way n (now ids) (now «id_order») (now «id_hints») by m × Lent (deliveryOf (filesOf (map now files))) (now refs) (now names) (now order) (now types) (now others) (now marks) ⌝ }
     ensures { λ r. ⌜ r ≡ keyTally 4 (deliveryOf (filesOf (map now (files .entry)))) k ⌝ }
 {
     let end = k.fields();
@@ -153,16 +196,23 @@ fn tally_fields<'a, 'b>(
             k,
             f,
             files,
+            letters,
             codes,
             code_order,
             code_hints,
             way,
             n,
+            ids,
+            id_order,
+            id_hints,
+            by,
+            m,
             refs,
             names,
             hints,
             order,
             types,
+            others,
             marks,
         );
         f += 1;
@@ -175,19 +225,26 @@ fn tally_file<'a, 'b>(
     t: usize,
     k: Kind,
     files: [&'a [u8]; FILES],
+    letters: &'b [u8],
     codes: &'b [u64],
     code_order: &'b [usize],
     code_hints: &'b [u16],
     way: Way,
     n: usize,
+    ids: &'b [u64],
+    id_order: &'b [usize],
+    id_hints: &'b [u16],
+    by: Way,
+    m: usize,
     refs: &mut [u64],
     names: &mut [u64],
     hints: &mut [u16],
     order: &mut [usize],
     types: &mut [u8],
+    others: &mut [u8],
     marks: &mut [u8],
 ) -> Tally
-    requires { ⌜ AtHand t (deliveryOf (filesOf (map now files))) (now codes) (now «code_order») (now «code_hints») way n × Lent (deliveryOf (filesOf (map now files))) (now refs) (now names) (now order) (now types) (now marks) ⌝ }
+    requires { ⌜ AtHand t (deliveryOf (filesOf (map now files))) (now letters) (now codes) (now «code_order») (now «code_hints») way n (now ids) (now «id_order») (now «id_hints») by m × Lent (deliveryOf (filesOf (map now files))) (now refs) (now names) (now order) (now types) (now others) (now marks) ⌝ }
     ensures { λ r. ⌜ r ≡ keyTally t (deliveryOf (filesOf (map now (files .entry)))) k ⌝ }
 {
     if t == 3 {
@@ -197,16 +254,23 @@ fn tally_file<'a, 'b>(
         return tally_fields(
             k,
             files,
+            letters,
             codes,
             code_order,
             code_hints,
             way,
             n,
+            ids,
+            id_order,
+            id_hints,
+            by,
+            m,
             refs,
             names,
             hints,
             order,
             types,
+            others,
             marks,
         );
     }
@@ -218,19 +282,26 @@ fn tally_which<'a, 'b>(
     t: usize,
     which: Which,
     files: [&'a [u8]; FILES],
+    letters: &'b [u8],
     codes: &'b [u64],
     code_order: &'b [usize],
     code_hints: &'b [u16],
     way: Way,
     n: usize,
+    ids: &'b [u64],
+    id_order: &'b [usize],
+    id_hints: &'b [u16],
+    by: Way,
+    m: usize,
     refs: &mut [u64],
     names: &mut [u64],
     hints: &mut [u16],
     order: &mut [usize],
     types: &mut [u8],
+    others: &mut [u8],
     marks: &mut [u8],
 ) -> Tally
-    requires { ⌜ AtHand t (deliveryOf (filesOf (map now files))) (now codes) (now «code_order») (now «code_hints») way n × Lent (deliveryOf (filesOf (map now files))) (now refs) (now names) (now order) (now types) (now marks) ⌝ }
+    requires { ⌜ AtHand t (deliveryOf (filesOf (map now files))) (now letters) (now codes) (now «code_order») (now «code_hints») way n (now ids) (now «id_order») (now «id_hints») by m × Lent (deliveryOf (filesOf (map now files))) (now refs) (now names) (now order) (now types) (now others) (now marks) ⌝ }
     ensures { λ r. ⌜ r ≡ tallyAt (keyTally t (deliveryOf (filesOf (map now (files .entry))))) which ⌝ }
 {
     match which {
@@ -239,16 +310,23 @@ fn tally_which<'a, 'b>(
             t,
             k,
             files,
+            letters,
             codes,
             code_order,
             code_hints,
             way,
             n,
+            ids,
+            id_order,
+            id_hints,
+            by,
+            m,
             refs,
             names,
             hints,
             order,
             types,
+            others,
             marks,
         ),
     }
@@ -258,19 +336,26 @@ fn tally_which<'a, 'b>(
 fn tally_files<'a, 'b>(
     t: usize,
     files: [&'a [u8]; FILES],
+    letters: &'b [u8],
     codes: &'b [u64],
     code_order: &'b [usize],
     code_hints: &'b [u16],
     way: Way,
     n: usize,
+    ids: &'b [u64],
+    id_order: &'b [usize],
+    id_hints: &'b [u16],
+    by: Way,
+    m: usize,
     refs: &mut [u64],
     names: &mut [u64],
     hints: &mut [u16],
     order: &mut [usize],
     types: &mut [u8],
+    others: &mut [u8],
     marks: &mut [u8],
 ) -> [Tally; FILES]
-    requires { ⌜ AtHand t (deliveryOf (filesOf (map now files))) (now codes) (now «code_order») (now «code_hints») way n × Lent (deliveryOf (filesOf (map now files))) (now refs) (now names) (now order) (now types) (now marks) ⌝ }
+    requires { ⌜ AtHand t (deliveryOf (filesOf (map now files))) (now letters) (now codes) (now «code_order») (now «code_hints») way n (now ids) (now «id_order») (now «id_hints») by m × Lent (deliveryOf (filesOf (map now files))) (now refs) (now names) (now order) (now types) (now others) (now marks) ⌝ }
     ensures { λ r. ⌜ r ≡ keyTallies t (deliveryOf (filesOf (map now (files .entry)))) ⌝ }
 {
     let none = no_tally();
@@ -281,16 +366,23 @@ fn tally_files<'a, 'b>(
             t,
             kind_of(i + 1),
             files,
+            letters,
             codes,
             code_order,
             code_hints,
             way,
             n,
+            ids,
+            id_order,
+            id_hints,
+            by,
+            m,
             refs,
             names,
             hints,
             order,
             types,
+            others,
             marks,
         );
         i += 1;
@@ -298,21 +390,22 @@ fn tally_files<'a, 'b>(
     tallies
 }
 
-// The catalogue's codes, read and prepared for the forties; no other ten looks one up.
-fn prepare_codes(
+// What the first field of a file names, read and prepared for the forties; no other ten looks it up.
+fn prepare_names(
     t: usize,
-    cat: &[u8],
-    codes: &mut [u64],
+    s: &[u8],
+    k: Kind,
+    keys: &mut [u64],
     order: &mut [usize],
     hints: &mut [u16],
 ) -> Way
-    requires { ⌜ (tableOf (now cat) Kind.Catalogo .count ≤ length (now codes)) × (tableOf (now cat) Kind.Catalogo .count ≤ length (now order)) ⌝ }
-    ensures { λ r. ⌜ (t ≡ 4 → Fills (now (codes .exit)) (λ j. nameAt Kind.Catalogo (tableOf (now (cat .entry)) Kind.Catalogo) j 1) (tableOf (now (cat .entry)) Kind.Catalogo .count) (tableOf (now (cat .entry)) Kind.Catalogo .count)) ⌝ }
-    ensures ready { λ r. ⌜ (t ≡ 4 → Ready (now (codes .exit)) (now (order .exit)) (now (hints .exit)) (tableOf (now (cat .entry)) Kind.Catalogo .count) r) ⌝ }
+    requires { ⌜ (tableOf (now s) k .count ≤ length (now keys)) × (tableOf (now s) k .count ≤ length (now order)) ⌝ }
+    ensures { λ r. ⌜ (t ≡ 4 → Fills (now (keys .exit)) (λ j. nameAt k (tableOf (now (s .entry)) k) j 1) (tableOf (now (s .entry)) k .count) (tableOf (now (s .entry)) k .count)) ⌝ }
+    ensures ready { λ r. ⌜ (t ≡ 4 → Ready (now (keys .exit)) (now (order .exit)) (now (hints .exit)) (tableOf (now (s .entry)) k .count) r) ⌝ }
 {
     if t == 4 {
-        let n = fill_names(cat, Kind::Catalogo, 1, codes);
-        return prepare(codes, n, hints, order);
+        let n = fill_names(s, k, 1, keys);
+        return prepare(keys, n, hints, order);
     }
     Way {
         hinted: false,
@@ -320,39 +413,65 @@ fn prepare_codes(
     }
 }
 
+// The letters of the catalogue's n records, for the forties.
+fn prepare_letters(t: usize, cat: &[u8], n: usize, letters: &mut [u8])
+    requires { ⌜ n ≤ length (now letters) ⌝ }
+    ensures { λ _. ⌜ (t ≡ 4 → Letters (now (letters .exit)) (tableOf (now (cat .entry)) Kind.Catalogo) n) ⌝ }
+{
+    if t == 4 {
+        fill_letters(cat, n, letters);
+    }
+}
+
 // The tallies of the ten t in each file, with everything lent.
 fn tally_in<'a>(
     t: usize,
     files: [&'a [u8]; FILES],
+    letters: &mut [u8],
     codes: &mut [u64],
     code_order: &mut [usize],
     code_hints: &mut [u16],
+    ids: &mut [u64],
+    id_order: &mut [usize],
+    id_hints: &mut [u16],
     refs: &mut [u64],
     names: &mut [u64],
     hints: &mut [u16],
     order: &mut [usize],
     types: &mut [u8],
+    others: &mut [u8],
     marks: &mut [u8],
 ) -> [Tally; FILES]
-    requires { ⌜ (deliveryOf (filesOf (map now files)) Kind.Catalogo .count ≤ length (now codes)) × (deliveryOf (filesOf (map now files)) Kind.Catalogo .count ≤ length (now «code_order»)) × Lent (deliveryOf (filesOf (map now files))) (now refs) (now names) (now order) (now types) (now marks) ⌝ }
+    requires { ⌜ (deliveryOf (filesOf (map now files)) Kind.Catalogo .count ≤ length (now letters)) × (deliveryOf (filesOf (map now files)) Kind.Catalogo .count ≤ length (now codes)) × (deliveryOf (filesOf (map now files)) Kind.Catalogo .count ≤ length (now «code_order»)) × (deliveryOf (filesOf (map now files)) Kind.Nodo .count ≤ length (now ids)) × (deliveryOf (filesOf (map now files)) Kind.Nodo .count ≤ length (now «id_order»)) × Lent (deliveryOf (filesOf (map now files))) (now refs) (now names) (now order) (now types) (now others) (now marks) ⌝ }
     ensures { λ r. ⌜ r ≡ keyTallies t (deliveryOf (filesOf (map now (files .entry)))) ⌝ }
 {
     let cat = file_of(files, Kind::Catalogo);
     let n = rows(cat, Kind::Catalogo);
-    let way = prepare_codes(t, cat, codes, code_order, code_hints);
+    let way = prepare_names(t, cat, Kind::Catalogo, codes, code_order, code_hints);
+    prepare_letters(t, cat, n, letters);
+    let nodo = file_of(files, Kind::Nodo);
+    let m = rows(nodo, Kind::Nodo);
+    let by = prepare_names(t, nodo, Kind::Nodo, ids, id_order, id_hints);
     tally_files(
         t,
         files,
+        letters,
         codes,
         code_order,
         code_hints,
         way,
         n,
+        ids,
+        id_order,
+        id_hints,
+        by,
+        m,
         refs,
         names,
         hints,
         order,
         types,
+        others,
         marks,
     )
 }
@@ -362,26 +481,36 @@ fn with_few<'a>(t: usize, files: [&'a [u8]; FILES]) -> [Tally; FILES]
     requires { ⌜ AllFew (deliveryOf (filesOf (map now files))) ⌝ }
     ensures { λ r. ⌜ r ≡ keyTallies t (deliveryOf (filesOf (map now (files .entry)))) ⌝ }
 {
+    let mut letters = [0u8; FEW];
     let mut codes = [0u64; FEW];
     let mut code_order = [0usize; FEW];
     let mut code_hints = [0u16; FEW_HINTS];
+    let mut ids = [0u64; FEW];
+    let mut id_order = [0usize; FEW];
+    let mut id_hints = [0u16; FEW_HINTS];
     let mut refs = [0u64; FEW];
     let mut names = [0u64; FEW];
     let mut hints = [0u16; FEW_HINTS];
     let mut order = [0usize; FEW];
     let mut types = [0u8; FEW];
+    let mut others = [0u8; FEW];
     let mut marks = [0u8; FEW];
     tally_in(
         t,
         files,
+        &mut letters,
         &mut codes,
         &mut code_order,
         &mut code_hints,
+        &mut ids,
+        &mut id_order,
+        &mut id_hints,
         &mut refs,
         &mut names,
         &mut hints,
         &mut order,
         &mut types,
+        &mut others,
         &mut marks,
     )
 }
@@ -390,26 +519,36 @@ fn with_few<'a>(t: usize, files: [&'a [u8]; FILES]) -> [Tally; FILES]
 fn with_many<'a>(t: usize, files: [&'a [u8]; FILES]) -> [Tally; FILES]
     ensures { λ r. ⌜ r ≡ keyTallies t (deliveryOf (filesOf (map now (files .entry)))) ⌝ }
 {
+    let mut letters = [0u8; LIMIT];
     let mut codes = [0u64; LIMIT];
     let mut code_order = [0usize; LIMIT];
     let mut code_hints = [0u16; HINTS];
+    let mut ids = [0u64; LIMIT];
+    let mut id_order = [0usize; LIMIT];
+    let mut id_hints = [0u16; HINTS];
     let mut refs = [0u64; LIMIT];
     let mut names = [0u64; LIMIT];
     let mut hints = [0u16; HINTS];
     let mut order = [0usize; LIMIT];
     let mut types = [0u8; LIMIT];
+    let mut others = [0u8; LIMIT];
     let mut marks = [0u8; LIMIT];
     tally_in(
         t,
         files,
+        &mut letters,
         &mut codes,
         &mut code_order,
         &mut code_hints,
+        &mut ids,
+        &mut id_order,
+        &mut id_hints,
         &mut refs,
         &mut names,
         &mut hints,
         &mut order,
         &mut types,
+        &mut others,
         &mut marks,
     )
 }

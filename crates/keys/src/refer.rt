@@ -22,15 +22,15 @@ ghost use mathlib.Core.Bool.{not};
 ghost use Prim.Native.Nat.{ℕ, _≤_, _<_};
 ghost use lib.Dec.{eqb};
 ghost use lib.ListN.{length, getD};
+ghost use Rattle.index.specs.Look.{foundBelow};
 ghost use Rattle.index.specs.Marks.{Marked};
 ghost use Rattle.index.specs.Way.{Ready};
 ghost use Rattle.record.specs.Table.{limit};
-ghost use Rattle.record.specs.Says.{tableOf, letterIn};
+ghost use Rattle.record.specs.Says.{tableOf};
 ghost use Rattle.record.specs.Names.{nameAt};
-ghost use Rattle.keys.specs.Rules.{dangles, mistyped};
-ghost use Rattle.record.specs.machinery.Columns.{Fills};
+ghost use Rattle.keys.specs.Rules.{dangles};
 ghost use Rattle.keys.specs.machinery.Cells.{OneMore, TwoMore};
-ghost use Rattle.keys.specs.machinery.Types.{Types};
+ghost use Rattle.keys.specs.machinery.Types.{Letters, mistypedBy, isMissed, isOther, Types};
 
 // The records whose field is there at all.
 fn mark_present(s: &[u8], k: Kind, f: usize, marks: &mut [u8])
@@ -121,6 +121,28 @@ fn tally_unknown<'a>(
     with_marks(t, marks, m, cell)
 }
 
+// One cell more: the records of s whose field f names none of n keys that are in hand.
+pub(crate) fn tally_known<'a, 'b>(
+    t: Tally,
+    s: &'a [u8],
+    k: Kind,
+    f: usize,
+    keys: &'b [u64],
+    order: &'b [usize],
+    hints: &'b [u16],
+    way: Way,
+    n: usize,
+    cell: usize,
+    refs: &mut [u64],
+    marks: &mut [u8],
+) -> Tally
+    requires { ⌜ (t .many ≤ 4294967296) × (tableOf (now s) k .count ≤ length (now refs)) × (tableOf (now s) k .count ≤ length (now marks)) × Ready (now keys) (now order) (now hints) n way ⌝ }
+    ensures { λ r. ⌜ OneMore t (λ i. dangles (λ j. getD (now (keys .entry)) j 0) n (nameAt k (tableOf (now (s .entry)) k) i f)) (tableOf (now (s .entry)) k .count) cell r ⌝ }
+{
+    let m = fill_names(s, k, f, refs);
+    tally_unknown(t, refs, m, keys, order, hints, way, n, cell, marks)
+}
+
 // One cell more: the records of s whose field f names no record of `to` by its field g.
 pub(crate) fn tally_dangling<'a>(
     t: Tally,
@@ -140,26 +162,37 @@ pub(crate) fn tally_dangling<'a>(
     requires { ⌜ (t .many ≤ 4294967296) × (tableOf (now s) k .count ≤ length (now refs)) × (tableOf (now s) k .count ≤ length (now marks)) × (tableOf (now «to») other .count ≤ length (now names)) × (tableOf (now «to») other .count ≤ length (now order)) ⌝ }
     ensures { λ r. ⌜ OneMore t (λ i. dangles (λ j. nameAt other (tableOf (now («to» .entry)) other) j g) (tableOf (now («to» .entry)) other .count) (nameAt k (tableOf (now (s .entry)) k) i f)) (tableOf (now (s .entry)) k .count) cell r ⌝ }
 {
-    let m = fill_names(s, k, f, refs);
     let n = fill_names(to, other, g, names);
     let way = prepare(names, n, hints, order);
-    tally_unknown(t, refs, m, names, order, hints, way, n, cell, marks)
+    tally_known(t, s, k, f, names, order, hints, way, n, cell, refs, marks)
+}
+
+// The letters of the catalogue's first n records.
+pub(crate) fn fill_letters(cat: &[u8], n: usize, out: &mut [u8])
+    requires { ⌜ n ≤ length (now out) ⌝ }
+    ensures { λ _. ⌜ Letters (now (out .exit)) (tableOf (now (cat .entry)) Kind.Catalogo) n ⌝ }
+{
+    let mut j = 0;
+    while j < n {
+        out[j] = letter(cat, Kind::Catalogo, j, 2);
+        j += 1;
+    }
 }
 
 // Marks, of each code that is catalogued under the type, the record that a look-up of it finds. It is the same for equal codes, and so
 // tells of all its records. Where no two codes are equal the record's own letter tells, and no marks are made.
-fn mark_types<'a, 'b>(
-    cat: &'a [u8],
-    keys: &'b [u64],
-    order: &'b [usize],
-    hints: &'b [u16],
+fn mark_types<'a>(
+    letters: &'a [u8],
+    codes: &'a [u64],
+    order: &'a [usize],
+    hints: &'a [u16],
     way: Way,
     n: usize,
     wanted: u8,
     types: &mut [u8],
 )
-    requires { ⌜ Ready (now keys) (now order) (now hints) n way × (n ≤ length (now types)) ⌝ }
-    ensures { λ _. ⌜ Types (now (keys .entry)) (now (order .entry)) (now (hints .entry)) way n (λ j. eqb (letterIn (tableOf (now (cat .entry)) Kind.Catalogo .says j 2)) wanted) (now (types .exit)) ⌝ }
+    requires { ⌜ Ready (now codes) (now order) (now hints) n way × (n ≤ length (now letters)) × (n ≤ length (now types)) ⌝ }
+    ensures { λ _. ⌜ Types (now (codes .entry)) (now (order .entry)) (now (hints .entry)) way n (λ j. eqb (getD (now (letters .entry)) j 0) wanted) (now (types .exit)) ⌝ }
 {
     if way.apart {
         return;
@@ -167,115 +200,74 @@ fn mark_types<'a, 'b>(
     clear(types, n);
     let mut j = 0;
     while j < n {
-        let found = look(keys, order, hints, way, n, keys[j]);
+        let found = look(codes, order, hints, way, n, codes[j]);
         let Found::At(r) = found else {
             return;
         };
-        let typed = (types[r] == 1) | (letter(cat, Kind::Catalogo, j, 2) == wanted);
-        types[r] = as_mark(typed);
+        types[r] = as_mark((types[r] == 1) | (letters[j] == wanted));
         j += 1;
     }
 }
 
-// Whether the code is catalogued, and under no record of the type. The record that is found decides where its letter is the type's, and
-// where no two codes are equal, since it is the only one then; else its mark does.
-fn is_mistyped<'a, 'b>(
-    cat: &'a [u8],
-    keys: &'b [u64],
-    order: &'b [usize],
-    hints: &'b [u16],
-    way: Way,
-    n: usize,
-    types: &'b [u8],
-    x: u64,
-    wanted: u8,
-) -> bool
-    requires { ⌜ Ready (now keys) (now order) (now hints) n way × Fills (now keys) (λ j. nameAt Kind.Catalogo (tableOf (now cat) Kind.Catalogo) j 1) (tableOf (now cat) Kind.Catalogo .count) n × Types (now keys) (now order) (now hints) way n (λ j. eqb (letterIn (tableOf (now cat) Kind.Catalogo .says j 2)) wanted) (now types) ⌝ }
-    ensures { λ r. ⌜ r ≡ mistyped wanted (tableOf (now (cat .entry)) Kind.Catalogo) x ⌝ }
+// Whether a code isn't missing, and was not found.
+fn is_missed(found: Found, x: u64) -> bool
+    ensures { λ r. ⌜ r ≡ isMissed found x ⌝ }
 {
-    let found = look(keys, order, hints, way, n, x);
     match found {
-        Found::Nothing => false,
-        Found::At(j) => {
-            if letter(cat, Kind::Catalogo, j, 2) == wanted {
-                return false;
-            }
-            if way.apart {
-                return true;
-            }
-            types[j] != 1
-        }
+        Found::Nothing => x != 0,
+        Found::At(_) => false,
     }
 }
 
-// Of m codes those that are mistyped.
-fn mark_mistyped_in<'a, 'b>(
-    refs: &'b [u64],
+// Whether a code was found, and under no record of the type. The record that was found decides where its letter is the type's, and where
+// no two codes are equal, since it is the only one then; else its mark does.
+fn is_other<'a>(found: Found, letters: &'a [u8], way: Way, types: &'a [u8], wanted: u8) -> bool
+    requires { ⌜ foundBelow found (length (now letters)) × foundBelow found (length (now types)) ⌝ }
+    ensures { λ r. ⌜ r ≡ isOther found (now (letters .entry)) (way .apart) (now (types .entry)) wanted ⌝ }
+{
+    match found {
+        Found::Nothing => false,
+        Found::At(j) => (letters[j] != wanted) & (way.apart | (types[j] != 1)),
+    }
+}
+
+// Of m codes those that aren't catalogued, and those that are catalogued under another type. Each is looked up once for both.
+fn mark_codes<'a>(
+    refs: &'a [u64],
     m: usize,
-    cat: &'a [u8],
-    keys: &'b [u64],
-    order: &'b [usize],
-    hints: &'b [u16],
+    letters: &'a [u8],
+    codes: &'a [u64],
+    order: &'a [usize],
+    hints: &'a [u16],
     way: Way,
     n: usize,
-    types: &'b [u8],
+    types: &'a [u8],
     wanted: u8,
+    others: &mut [u8],
     marks: &mut [u8],
 )
-    requires { ⌜ (m ≤ length (now refs)) × (m ≤ length (now marks)) × Ready (now keys) (now order) (now hints) n way × Fills (now keys) (λ j. nameAt Kind.Catalogo (tableOf (now cat) Kind.Catalogo) j 1) (tableOf (now cat) Kind.Catalogo .count) n × Types (now keys) (now order) (now hints) way n (λ j. eqb (letterIn (tableOf (now cat) Kind.Catalogo .says j 2)) wanted) (now types) ⌝ }
-    ensures { λ _. ⌜ Marked (now (marks .entry)) (now (marks .exit)) (λ i. mistyped wanted (tableOf (now (cat .entry)) Kind.Catalogo) (getD (now (refs .entry)) i 0)) m ⌝ }
+    requires { ⌜ (m ≤ length (now refs)) × (m ≤ length (now others)) × (m ≤ length (now marks)) × Ready (now codes) (now order) (now hints) n way × (n ≤ length (now letters)) × Types (now codes) (now order) (now hints) way n (λ j. eqb (getD (now letters) j 0) wanted) (now types) ⌝ }
+    ensures { λ _. ⌜ Marked (now (marks .entry)) (now (marks .exit)) (λ i. dangles (λ j. getD (now (codes .entry)) j 0) n (getD (now (refs .entry)) i 0)) m ⌝ }
+    ensures other { λ _. ⌜ Marked (now (others .entry)) (now (others .exit)) (λ i. mistypedBy (now (codes .entry)) (now (letters .entry)) n wanted (getD (now (refs .entry)) i 0)) m ⌝ }
 {
     let mut i = 0;
     while i < m {
-        marks[i] = as_mark(is_mistyped(cat, keys, order, hints, way, n, types, refs[i], wanted));
+        let x = refs[i];
+        let found = look(codes, order, hints, way, n, x);
+        marks[i] = as_mark(is_missed(found, x));
+        others[i] = as_mark(is_other(found, letters, way, types, wanted));
         i += 1;
     }
 }
 
-// One cell more: of m codes those that are mistyped.
-fn tally_mistyped<'a, 'b>(
-    t: Tally,
-    refs: &'b [u64],
-    m: usize,
-    cat: &'a [u8],
-    codes: &'b [u64],
-    order: &'b [usize],
-    hints: &'b [u16],
-    way: Way,
-    n: usize,
-    wanted: u8,
-    cell: usize,
-    types: &mut [u8],
-    marks: &mut [u8],
-) -> Tally
-    requires { ⌜ (t .many ≤ 4294967296) × (m ≤ limit) × (m ≤ length (now refs)) × (m ≤ length (now marks)) × (n ≤ length (now types)) × Ready (now codes) (now order) (now hints) n way × Fills (now codes) (λ j. nameAt Kind.Catalogo (tableOf (now cat) Kind.Catalogo) j 1) (tableOf (now cat) Kind.Catalogo .count) n ⌝ }
-    ensures { λ r. ⌜ OneMore t (λ i. mistyped wanted (tableOf (now (cat .entry)) Kind.Catalogo) (getD (now (refs .entry)) i 0)) m cell r ⌝ }
-{
-    mark_types(cat, codes, order, hints, way, n, wanted, types);
-    mark_mistyped_in(
-        refs,
-        m,
-        cat,
-        codes,
-        order,
-        hints,
-        way,
-        n,
-        types,
-        wanted,
-        marks,
-    );
-    with_marks(t, marks, m, cell)
-}
-
 // Two cells more: the records of s whose code, in field f, isn't catalogued, and those whose code is catalogued under another type. The
-// catalogue's n codes are in hand; the file's own are read once for both.
+// catalogue's n codes and their letters are in hand; the file's own are read once for both.
 pub(crate) fn tally_codes<'a, 'b>(
     t: Tally,
     s: &'a [u8],
     k: Kind,
     f: usize,
-    cat: &'a [u8],
+    letters: &'b [u8],
     codes: &'b [u64],
     order: &'b [usize],
     hints: &'b [u16],
@@ -285,26 +277,28 @@ pub(crate) fn tally_codes<'a, 'b>(
     cell: usize,
     refs: &mut [u64],
     types: &mut [u8],
+    others: &mut [u8],
     marks: &mut [u8],
 ) -> Tally
-    requires { ⌜ (t .many ≤ 4294950912) × (cell ≤ 1000) × (tableOf (now s) k .count ≤ length (now refs)) × (tableOf (now s) k .count ≤ length (now marks)) × (n ≤ length (now types)) × Ready (now codes) (now order) (now hints) n way × Fills (now codes) (λ j. nameAt Kind.Catalogo (tableOf (now cat) Kind.Catalogo) j 1) (tableOf (now cat) Kind.Catalogo .count) n ⌝ }
-    ensures { λ r. ⌜ TwoMore t (λ i. dangles (λ j. nameAt Kind.Catalogo (tableOf (now (cat .entry)) Kind.Catalogo) j 1) (tableOf (now (cat .entry)) Kind.Catalogo .count) (nameAt k (tableOf (now (s .entry)) k) i f)) (λ i. mistyped wanted (tableOf (now (cat .entry)) Kind.Catalogo) (nameAt k (tableOf (now (s .entry)) k) i f)) (tableOf (now (s .entry)) k .count) cell r ⌝ }
+    requires { ⌜ (t .many ≤ 4294950912) × (cell ≤ 1000) × (tableOf (now s) k .count ≤ length (now refs)) × (tableOf (now s) k .count ≤ length (now others)) × (tableOf (now s) k .count ≤ length (now marks)) × (n ≤ length (now letters)) × (n ≤ length (now types)) × Ready (now codes) (now order) (now hints) n way ⌝ }
+    ensures { λ r. ⌜ TwoMore t (λ i. dangles (λ j. getD (now (codes .entry)) j 0) n (nameAt k (tableOf (now (s .entry)) k) i f)) (λ i. mistypedBy (now (codes .entry)) (now (letters .entry)) n wanted (nameAt k (tableOf (now (s .entry)) k) i f)) (tableOf (now (s .entry)) k .count) cell r ⌝ }
 {
     let m = fill_names(s, k, f, refs);
-    let known = tally_unknown(t, refs, m, codes, order, hints, way, n, cell, marks);
-    tally_mistyped(
-        known,
+    mark_types(letters, codes, order, hints, way, n, wanted, types);
+    mark_codes(
         refs,
         m,
-        cat,
+        letters,
         codes,
         order,
         hints,
         way,
         n,
-        wanted,
-        cell + 1,
         types,
+        wanted,
+        others,
         marks,
-    )
+    );
+    let known = with_marks(t, marks, m, cell);
+    with_marks(known, others, m, cell + 1)
 }

@@ -19,7 +19,7 @@ use Rattle.laws.specs.Count.{bit}
 use Rattle.laws.proofs.FindLaws.{true-false, any-more}
 use Rattle.laws.proofs.RowLaws.{and-true}
 use Rattle.index.specs.Keys.{listed, firstDuplicate}
-use Rattle.index.specs.Look.{Sought}
+use Rattle.index.specs.Look.{Sought, foundBelow}
 use Rattle.index.specs.Hint.{slotOf, pointed, guessOf}
 use Rattle.index.specs.Way.{uptoOf, lastAt, keyed, findOf, isFound, Complete, lookOf, Ready}
 use Rattle.index.specs.Marks.{Marked}
@@ -30,7 +30,7 @@ use Rattle.index.proofs.OrderLaws.{same-or}
 use Rattle.index.proofs.WayLaws.{look-hinted}
 use Rattle.record.specs.machinery.Columns.{Fills}
 use Rattle.topology.proofs.LentLaws.{one-record, names-lent}
-use Rattle.topology.specs.machinery.Used.{foundBelow, putAt, freeAt, Used, Free, Unheld}
+use Rattle.topology.specs.machinery.Used.{putAt, freeAt, Used, Free, Unheld}
 
 -- A LOOK-UP that finds a record has its key, whatever the table says
 nothing-at : {r : ℕ} → Nothing ≡ At r → ⊥
@@ -88,12 +88,6 @@ look-own : (keys order hints : List ℕ) (t : Bool) (n x : ℕ) {r : ℕ} → lo
 unfolding lookOf guessOf findOf
 look-own keys order hints true n x e = pointed-own keys n x (getD hints (slotOf keys hints x) 0) e
 look-own keys order hints false n x e = keyed-own keys x (lastAt order (uptoOf keys order n x)) e
-
--- and it is one of the records, so that it stands in an array that is long enough
-pub sought-below : (keys : List ℕ) (n x : ℕ) (f : Found) {m : ℕ} → Sought keys n x f → n ≤ m → foundBelow f m
-unfolding Sought
-sought-below keys n x Nothing s l = tt
-sought-below keys n x (At r) s l = let h : r < n = s .0 in omega arith
 
 -- AN ID'S OWN RECORD is the one that its look-up finds, where hints find every id and no two are equal
 guess-self :

@@ -13,11 +13,11 @@ ghost use Prim.Native.Nat.{_<_, _≤_};
 ghost use lib.ListN.{length, getD};
 ghost use Rattle.laws.specs.Find.{names};
 ghost use Rattle.index.specs.Keys.{listed};
-ghost use Rattle.index.specs.Look.{Sought};
+ghost use Rattle.index.specs.Look.{Sought, foundBelow};
 ghost use Rattle.index.specs.Way.{lookOf, Ready};
 ghost use Rattle.record.specs.Says.{tableOf};
 ghost use Rattle.record.specs.Names.{nameAt};
-ghost use Rattle.topology.specs.machinery.Used.{foundBelow, putAt, freeAt, Used, Unheld};
+ghost use Rattle.topology.specs.machinery.Used.{putAt, freeAt, Used, Unheld};
 
 // The record that was found is in use.
 fn put(found: Found, used: &mut [u8])

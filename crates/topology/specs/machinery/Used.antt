@@ -16,11 +16,6 @@ use Rattle.record.specs.Says.{Table}
 use Rattle.record.specs.Names.{nameAt}
 use Rattle.topology.specs.Rules.{tramoStart, tramoEnd}
 
--- a record that was found is one of the first m
-abbrev pub foundBelow : Found → ℕ → Type 0
-foundBelow Nothing m = Unit
-foundBelow (At r) m = r < m
-
 -- 1 put at the record that was found
 abbrev pub putAt : List ℕ → Found → List ℕ
 putAt used Nothing = used

@@ -1,4 +1,4 @@
--- `keys::group::tally_files` meets its contract. The loop's invariant: the tallies of the files before are those of the row, and the lent arrays are as long as they were.
+-- `keys::group::tally_files` meets its contract. The loop's invariant: the tallies of the first `i` files are in the array.
 -- Assumes nothing.
 use Prim.Native.Nat.{_≤_, _-_}
 use mathlib.Core.List.{[], map}
@@ -6,31 +6,31 @@ use mathlib.Core.Path.{_≡_, refl, _∙_}
 use native.Mathlib.Omega.{arith}
 use lib.ListN.{length, take, length-set}
 use denote.Ref.{now}
-use borrow.Author.Needs.{needs}
 use Rattle.laws.proofs.RowLaws.{row-start, row-more, row-end}
 use Rattle.laws.specs.Row.{row}
 use Rattle.record.specs.Files.{filesOf, deliveryOf}
 use Rattle.record.specs.Table.{fileCount}
 use Rattle.keys.proofs.KeyTallies.{tallyNo, tally-turn, tallies-row}
 use Rattle.keys.proofs.LentLaws.{Kept, kept-start, lent-kept}
+use borrow.Author.Needs.{needs}
 use Rattle.keys.proofs.group.tally_files.Statement.{statement}
 use Rattle.keys.proofs.group.tally_files.Tie as tie
 
 abbrev Inv-loop : tie.InvT-loop
-Inv-loop t files codes code-order code-hints way n refs₀ names₀ hints₀ order₀ types₀ marks₀ tallies₀ i₀ refs names hints order types marks tallies i =
+Inv-loop t files letters codes code-order code-hints way n ids id-order id-hints by m refs₀ names₀ hints₀ order₀ types₀ others₀ marks₀ tallies₀ i₀ refs names hints order types others marks tallies i =
     (i ≤ fileCount)
     × (length tallies ≡ fileCount)
     × (take i tallies ≡ row (tallyNo t (deliveryOf (filesOf (map now files)))) i)
-    × Kept refs₀ names₀ hints₀ order₀ types₀ marks₀ refs names hints order types marks
+    × Kept refs₀ names₀ hints₀ order₀ types₀ others₀ marks₀ refs names hints order types others marks
 
 abbrev μ-loop : tie.MeasureT-loop
-μ-loop t files codes code-order code-hints way n refs₀ names₀ hints₀ order₀ types₀ marks₀ tallies₀ i₀ refs names hints order types marks tallies i = fileCount - i
+μ-loop t files letters codes code-order code-hints way n ids id-order id-hints by m refs₀ names₀ hints₀ order₀ types₀ others₀ marks₀ tallies₀ i₀ refs names hints order types others marks tallies i = fileCount - i
 
 no-tally-requires : tie.Need-no-tally-requires Inv-loop μ-loop
 no-tally-requires c κs = search needs
 
 loop-holds : tie.Need-loop-holds Inv-loop μ-loop
-loop-holds c = (omega arith, refl, row-start _ [], kept-start _ _ _ _ _ _)
+loop-holds c = (omega arith, refl, row-start _ [], kept-start _ _ _ _ _ _ _)
 
 add-kind-of : tie.Need-add-kind-of Inv-loop μ-loop
 add-kind-of c = search needs
@@ -40,15 +40,18 @@ kind-of-requires c κs = search needs
 
 tally-which-requires : tie.Need-tally-which-requires Inv-loop μ-loop
 tally-which-requires c κs =
-    let start = c .before .before .before .before .before .before .before .before .before .before .before .before .before .before .before .before .before .before .before in
-    (start .pre .0, lent-kept (c .before .before .before .before .before .before .before .before .loop .inv .3) (start .pre .1))
+    let c9 = c .before .before .before .before .before .before .before .before .before in
+    let c25 = c9 .before .before .before .before .before .before .before .before .before .before .before .before .before .before .before .before in
+    (c25 .pre .0, lent-kept (c9 .loop .inv .3) (c25 .pre .1))
 
 mul-tallies : tie.Need-mul-tallies Inv-loop μ-loop
 mul-tallies c = search needs
 
 array-set-from-tallies : tie.Need-array-set-from-tallies Inv-loop μ-loop
 array-set-from-tallies c =
-    omega (arith, c .before .before .before .before .before .before .before .before .before .before .before .before .before .before .before .before .before .before .before .before .before .loop .inv .1, c .before .before .before .before .before .before .before .before .before .before .before .before .before .before .before .before .before .before .before .before .loop-test .taken)
+    let c23 = c .before .before .before .before .before .before .before .before .before .before .before .before .before .before .before .before .before .before .before .before .before .before .before in
+    let c24 = c23 .before in
+    omega (arith, c24 .loop .inv .1, c23 .loop-test .taken)
 
 add-i : tie.Need-add-i Inv-loop μ-loop
 add-i c = search needs
@@ -58,39 +61,55 @@ loop-less c = search needs
 
 loop-again : tie.Need-loop-again Inv-loop μ-loop
 loop-again c =
-    let l = c .before .before .before .before .before .before .before .before .before .before .before .before .before .before .before .before .before .before .before .before .before .loop in
-    let under = c .before .before .before .before .before .before .before .before .before .before .before .before .before .before .before .before .before .before .before .before .loop-test .taken in (
+    let c1 = c .before in
+    let c3 = c1 .before .before in
+    let c5 = c3 .before .before in
+    let c7 = c5 .before .before in
+    let c9 = c7 .before .before in
+    let c11 = c9 .before .before in
+    let c13 = c11 .before .before in
+    let c14 = c13 .before in
+    let c22 = c14 .before .before .before .before .before .before .before .before in
+    let c23 = c22 .before in
+    let c24 = c23 .before in
+    let l = c24 .loop in
+    let under = c23 .loop-test .taken in
+    let kept = l .inv .3 in (
       omega (arith, under),
       simp length-set (l .inv .1),
-      row-more _ (l .i) (l .tallies) (c .before .before .before .before .before .before .before .before .before .before .before .before .tally-which .result) (omega (arith, l .inv .1, under)) (l .inv .2)
-          (tally-turn _ _ (l .i) (c .before .before .before .before .before .before .before .before .before .before .before .before .before .before .before .before .before .before .before .kind-of .ensures) (c .before .before .before .before .before .before .before .before .before .before .before .before .tally-which .ensures)),
+      row-more _ (l .i) (l .tallies) (c14 .tally-which .result) (omega (arith, l .inv .1, under)) (l .inv .2)
+          (tally-turn _ _ (l .i) (c22 .kind-of .ensures) (c14 .tally-which .ensures)),
       record {
-        refs-long = search needs;
-        names-long = search needs;
-        hints-long = search needs;
-        order-long = search needs;
-        types-long = search needs;
-        marks-long = search needs;
+        refs-long = omega (arith, c13 .refs .given, kept .refs-long);
+        names-long = omega (arith, c11 .names .given, kept .names-long);
+        hints-long = omega (arith, c9 .hints .given, kept .hints-long);
+        order-long = omega (arith, c7 .order .given, kept .order-long);
+        types-long = omega (arith, c5 .types .given, kept .types-long);
+        others-long = omega (arith, c3 .others .given, kept .others-long);
+        marks-long = omega (arith, c1 .marks .given, kept .marks-long);
       },
     )
 
 same-length : tie.Need-same-length Inv-loop μ-loop
-same-length c = search needs
+same-length c = c .before .loop .inv .3 .refs-long
 
 same-length-2 : tie.Need-same-length-2 Inv-loop μ-loop
-same-length-2 c = search needs
+same-length-2 c = c .before .loop .inv .3 .names-long
 
 same-length-3 : tie.Need-same-length-3 Inv-loop μ-loop
-same-length-3 c = search needs
+same-length-3 c = c .before .loop .inv .3 .hints-long
 
 same-length-4 : tie.Need-same-length-4 Inv-loop μ-loop
-same-length-4 c = search needs
+same-length-4 c = c .before .loop .inv .3 .order-long
 
 same-length-5 : tie.Need-same-length-5 Inv-loop μ-loop
-same-length-5 c = search needs
+same-length-5 c = c .before .loop .inv .3 .types-long
 
 same-length-6 : tie.Need-same-length-6 Inv-loop μ-loop
-same-length-6 c = search needs
+same-length-6 c = c .before .loop .inv .3 .others-long
+
+same-length-7 : tie.Need-same-length-7 Inv-loop μ-loop
+same-length-7 c = c .before .loop .inv .3 .marks-long
 
 returns : tie.Need-returns Inv-loop μ-loop
 returns c =
@@ -119,4 +138,5 @@ tally-files-spec =
     same-length-4
     same-length-5
     same-length-6
+    same-length-7
     returns)

@@ -1,9 +1,9 @@
--- `keys::group::with_few` meets its contract: the short arrays are long enough for a few records.
+-- `keys::group::with_few` meets its contract. The short arrays are long enough for a few records.
 -- Assumes nothing.
-use borrow.Author.Needs.{needs}
-use Rattle.record.specs.declared.kind.Kind.the-variants.{Catalogo}
+use Rattle.record.specs.declared.kind.Kind.the-variants.{Catalogo, Nodo}
 use Rattle.record.specs.machinery.Columns.{few}
 use Rattle.keys.proofs.LentLaws.{lent-of}
+use borrow.Author.Needs.{needs}
 use Rattle.keys.proofs.group.with_few.Statement.{statement}
 use Rattle.keys.proofs.group.with_few.Tie as tie
 
@@ -34,16 +34,34 @@ slice-aggregate-tally-in-8 c = search needs
 slice-aggregate-tally-in-9 : tie.Need-slice-aggregate-tally-in-9
 slice-aggregate-tally-in-9 c = search needs
 
+slice-aggregate-tally-in-10 : tie.Need-slice-aggregate-tally-in-10
+slice-aggregate-tally-in-10 c = search needs
+
+slice-aggregate-tally-in-11 : tie.Need-slice-aggregate-tally-in-11
+slice-aggregate-tally-in-11 c = search needs
+
+slice-aggregate-tally-in-12 : tie.Need-slice-aggregate-tally-in-12
+slice-aggregate-tally-in-12 c = search needs
+
+slice-aggregate-tally-in-13 : tie.Need-slice-aggregate-tally-in-13
+slice-aggregate-tally-in-13 c = search needs
+
+slice-aggregate-tally-in-14 : tie.Need-slice-aggregate-tally-in-14
+slice-aggregate-tally-in-14 c = search needs
+
 tally-in-requires : tie.Need-tally-in-requires
 tally-in-requires c κs =
-    let start = c .before .before .before .before .before .before .before .before .before in (
-      search (needs, start .pre .each Catalogo),
-      search (needs, start .pre .each Catalogo),
-      lent-of _ few _ _ _ _ _ (start .pre .each) (search needs) (search needs) (search needs) (search needs) (search needs),
+    let each = c .before .before .before .before .before .before .before .before .before .before .before .before .before .before .pre .each in (
+      search (needs, each Catalogo),
+      search (needs, each Catalogo),
+      search (needs, each Catalogo),
+      search (needs, each Nodo),
+      search (needs, each Nodo),
+      lent-of _ few _ _ _ _ _ _ each (search needs) (search needs) (search needs) (search needs) (search needs) (search needs),
     )
 
 returns : tie.Need-returns
-returns c = search needs
+returns c = c .before .before .before .before .before .before .before .before .before .before .before .before .before .before .tally-in .ensures
 
 pub with-few-spec : {M : Type 1} → statement M
 with-few-spec =
@@ -58,5 +76,10 @@ with-few-spec =
     slice-aggregate-tally-in-7
     slice-aggregate-tally-in-8
     slice-aggregate-tally-in-9
+    slice-aggregate-tally-in-10
+    slice-aggregate-tally-in-11
+    slice-aggregate-tally-in-12
+    slice-aggregate-tally-in-13
+    slice-aggregate-tally-in-14
     tally-in-requires
     returns)

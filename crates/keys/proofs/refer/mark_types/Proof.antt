@@ -3,31 +3,30 @@
 use Prim.Native.Nat.{_-_, _≤_}
 use mathlib.Core.Path.{_≡_, refl, _∙_}
 use lib.Dec.{eqb}
-use lib.ListN.{length, length-set}
+use lib.ListN.{length, getD, length-set}
+use native.Mathlib.Omega.{arith}
 use Rattle.index.proofs.LookLaws.{sought-record}
-use Rattle.record.specs.Says.{tableOf, letterIn}
-use Rattle.record.specs.declared.kind.Kind.the-variants.{Catalogo}
 use Rattle.keys.specs.machinery.Types.{Typing}
 use Rattle.keys.proofs.TypeLaws.{typing-start, typing-more, own-found, types-apart, types-end}
 use borrow.Author.Needs.{needs}
-use native.Mathlib.Omega.{arith}
 use Rattle.keys.proofs.refer.mark_types.Statement.{statement}
 use Rattle.keys.proofs.refer.mark_types.Tie as tie
 
 abbrev Inv-loop : tie.InvT-loop
-Inv-loop cat keys order hints way n wanted types₀ j₀ types j = (j ≤ n) × (length types ≡ length types₀) × Typing keys order hints (way .hinted) n (λ i. eqb (letterIn (tableOf cat Catalogo .says i 2)) wanted) types j
+Inv-loop letters codes order hints way n wanted types₀ j₀ types j =
+    (j ≤ n) × (length types ≡ length types₀) × Typing codes order hints (way .hinted) n (λ i. eqb (getD letters i 0) wanted) types j
 
 abbrev μ-loop : tie.MeasureT-loop
-μ-loop cat keys order hints way n wanted types₀ j₀ types j = n - j
+μ-loop letters codes order hints way n wanted types₀ j₀ types j = n - j
 
 returns : tie.Need-returns Inv-loop μ-loop
-returns c = types-apart _ _ _ _ _ _ _ (c .before .before .before .before .before .before .pre .1) (c .if1 .taken)
+returns c = types-apart _ _ _ _ _ _ _ (c .before .before .before .before .before .before .pre .2) (c .if1 .taken)
 
 clear-requires : tie.Need-clear-requires Inv-loop μ-loop
-clear-requires c κs = c .before .before .before .before .before .before .before .pre .1
+clear-requires c κs = c .before .before .before .before .before .before .before .pre .2
 
 loop-holds : tie.Need-loop-holds Inv-loop μ-loop
-loop-holds c = (omega arith, refl, typing-start _ _ _ _ _ _ (c .before .before .before .before .before .before .before .before .before .before .pre .1) (c .before .before .clear .ensures))
+loop-holds c = (omega arith, refl, typing-start _ _ _ _ _ _ (c .before .before .before .before .before .before .before .before .before .before .pre .2) (c .before .before .clear .ensures))
 
 mul-look : tie.Need-mul-look Inv-loop μ-loop
 mul-look c = omega (arith, c .before .before .before .before .before .before .before .before .before .before .before .before .pre .0 .keys-room)
@@ -50,21 +49,20 @@ same-length c = c .before .before .before .before .before .loop .inv .1 ∙ c .b
 returns-2 : tie.Need-returns-2 Inv-loop μ-loop
 returns-2 c = absurd (own-found _ _ (c .before .before .before .before .loop-test .taken) (c .before .before .look .ensures .0) (c .enum-told .given .1))
 
-slice-read-typed : tie.Need-slice-read-typed Inv-loop μ-loop
-slice-read-typed c =
-    omega
-    (arith, c .before .before .before .before .before .before .before .loop .inv .2 .room, sought-record _ _ _ (c .before .before .before .before .look .ensures .0) (c .before .before .found .given .1) .0)
+slice-read-as-mark : tie.Need-slice-read-as-mark Inv-loop μ-loop
+slice-read-as-mark c = omega (arith, c .before .before .before .before .before .before .before .loop .inv .2 .room, sought-record _ _ _ (c .before .before .before .before .look .ensures .0) (c .before .before .found .given .1) .0)
 
-letter-requires : tie.Need-letter-requires Inv-loop μ-loop
-letter-requires c κs = search needs
+shared-slice-read-as-mark : tie.Need-shared-slice-read-as-mark Inv-loop μ-loop
+shared-slice-read-as-mark c =
+    let c7 = c .before .before .before .before .before .before .before in
+    let c19 = c7 .before .before .before .before .before .before .before .before .before .before .before .before in
+    omega (arith, c7 .loop-test .taken, c19 .pre .1)
 
 as-mark-requires : tie.Need-as-mark-requires Inv-loop μ-loop
 as-mark-requires c κs = search needs
 
 slice-write-types : tie.Need-slice-write-types Inv-loop μ-loop
-slice-write-types c =
-    omega
-    (arith, c .before .before .before .before .before .before .before .before .before .loop .inv .2 .room, sought-record _ _ _ (c .before .before .before .before .before .before .look .ensures .0) (c .before .before .before .before .found .given .1) .0)
+slice-write-types c = omega (arith, c .before .before .before .before .before .before .before .before .before .loop .inv .2 .room, sought-record _ _ _ (c .before .before .before .before .before .before .look .ensures .0) (c .before .before .before .before .found .given .1) .0)
 
 add-j : tie.Need-add-j Inv-loop μ-loop
 add-j c = search needs
@@ -73,11 +71,10 @@ loop-less : tie.Need-loop-less Inv-loop μ-loop
 loop-less c = search needs
 
 loop-again : tie.Need-loop-again Inv-loop μ-loop
-loop-again c = (
-  omega arith,
-  simp length-set (c .before .before .before .before .before .before .before .before .before .loop .inv .1),
-  typing-more _ _ _ _ _ _ (c .before .before .before .before .before .before .before .before .before .loop .inv .2) (c .before .before .before .before .before .before .look .ensures .0) (c .before .before .before .before .before .before .look .ensures .1) (c .before .before .before .before .found .given .1) (c .as-mark .ensures ∙ rw (← c .before .letter .ensures)),
-)
+loop-again c =
+    let l = c .before .before .before .before .before .before .before .before .before .loop in
+    let found = c .before .before .before .before .before .before .look .ensures in
+    (omega arith, simp length-set (l .inv .1), typing-more _ _ _ _ _ _ (l .inv .2) (found .0) (found .1) (c .before .before .before .before .found .given .1) (c .as-mark .ensures))
 
 same-length-2 : tie.Need-same-length-2 Inv-loop μ-loop
 same-length-2 c = c .before .loop .inv .1 ∙ c .before .before .before .before .clear .ensures .long
@@ -101,8 +98,8 @@ mark-types-spec =
     enum-told
     same-length
     returns-2
-    slice-read-typed
-    letter-requires
+    slice-read-as-mark
+    shared-slice-read-as-mark
     as-mark-requires
     slice-write-types
     add-j

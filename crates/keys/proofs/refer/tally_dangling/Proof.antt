@@ -1,67 +1,59 @@
--- `keys::refer::tally_dangling` meets its contract. The arrays hold the columns, and there is room to look up.
+-- `keys::refer::tally_dangling` meets its contract. The array holds the names that are referred to.
 -- Assumes nothing.
+use mathlib.Core.Path.{refl}
 use native.Mathlib.Omega.{arith}
-use borrow.Author.Needs.{needs}
 use Rattle.record.proofs.ColumnLaws.{read-fills}
-use Rattle.keys.specs.Rules.{dangles}
-use Rattle.keys.proofs.ReferLaws.{fills-limit, fills-room, one-filled, dangles-filled}
+use Rattle.keys.proofs.CellLaws.{one-as}
+use Rattle.keys.proofs.ReferLaws.{fills-limit, fills-room, dangles-filled}
+use borrow.Author.Needs.{needs}
 use Rattle.keys.proofs.refer.tally_dangling.Statement.{statement}
 use Rattle.keys.proofs.refer.tally_dangling.Tie as tie
 
 fill-names-requires : tie.Need-fill-names-requires
 fill-names-requires c κs = search needs
 
-fill-names-requires-2 : tie.Need-fill-names-requires-2
-fill-names-requires-2 c κs = search needs
-
 prepare-requires : tie.Need-prepare-requires
 prepare-requires c κs =
-    let start = c .before .before .before .before .before .before .before .before .before .before .before .before .before .before .before .before .before .before in
-    let fills = read-fills (start .pre .3) (c .before .before .before .before .before .fill-names2 .ensures) in
-    (fills-limit fills, fills-room fills, omega (arith, fills .count, start .pre .4))
+    let p = c .before .before .before .before .before .before .before .before .before .before .before .before .before .before .pre in
+    let fills = read-fills (p .3) (c .before .before .before .before .before .fill-names .ensures) in
+    (fills-limit fills, fills-room fills, omega (arith, fills .count, p .4))
 
-tally-unknown-requires : tie.Need-tally-unknown-requires
-tally-unknown-requires c κs =
-    let start = c .before .before .before .before .before .before .before .before .before .before .before .before .before .before .before .before .before .before .before .before .before .before .before .before .before .before .before .before in
-    let own = read-fills (start .pre .1) (c .before .before .before .before .before .before .before .before .before .before .before .before .before .before .before .before .before .before .before .fill-names .ensures) in (
-      start .pre .0,
-      fills-limit own,
-      fills-room own,
-      omega (arith, own .count, start .pre .2),
-      c .before .before .before .before .before .before .before .before .before .prepare .ensures,
-    )
+tally-known-requires : tie.Need-tally-known-requires
+tally-known-requires c κs =
+    let c9 = c .before .before .before .before .before .before .before .before .before in
+    let c24 = c9 .before .before .before .before .before .before .before .before .before .before .before .before .before .before .before in
+    let p = c24 .pre in
+    (p .0, p .1, p .2, c9 .prepare .ensures)
 
 same-length : tie.Need-same-length
-same-length c = search needs
+same-length c = omega (arith, c .before .before .before .refs .given)
 
 same-length-2 : tie.Need-same-length-2
-same-length-2 c = search needs
+same-length-2 c = omega (arith, c .before .before .before .before .before .before .before .before .before .before .before .before .before .before .before .before .before .before .before .names .given)
 
 same-length-3 : tie.Need-same-length-3
-same-length-3 c = search needs
+same-length-3 c = omega (arith, c .before .before .before .before .before .before .before .before .before .before .before .before .before .hints .given)
 
 same-length-4 : tie.Need-same-length-4
-same-length-4 c = search needs
+same-length-4 c = omega (arith, c .before .before .before .before .before .before .before .before .before .before .before .order .given)
 
 same-length-5 : tie.Need-same-length-5
-same-length-5 c = search needs
+same-length-5 c = omega (arith, c .before .marks .given)
 
 returns : tie.Need-returns
 returns c =
-    let start = c .before .before .before .before .before .before .before .before .before .before .before .before .before .before .before .before .before .before .before .before .before .before .before .before .before .before .before .before .before .before .before in
-    one-filled (read-fills (start .pre .1) (c .before .before .before .before .before .before .before .before .before .before .before .before .before .before .before .before .before .before .before .before .before .before .fill-names .ensures))
-    (dangles _ _) (dangles _ _)
-    (dangles-filled (read-fills (start .pre .3) (c .before .before .before .before .before .before .before .before .before .before .before .before .before .before .before .before .before .before .fill-names2 .ensures)))
-    (c .before .before .tally-unknown .ensures)
+    let c4 = c .before .before .before .before in
+    let c20 = c4 .before .before .before .before .before .before .before .before .before .before .before .before .before .before .before .before in
+    let c29 = c20 .before .before .before .before .before .before .before .before .before in
+    one-as refl (λ i u. dangles-filled (read-fills (c29 .pre .3) (c20 .fill-names .ensures)) _) (c4 .tally-known .ensures)
 
 pub tally-dangling-spec : {M : Type 1} → statement M
 tally-dangling-spec =
     tie.close
     (tie.spec
     fill-names-requires
-    fill-names-requires-2
     prepare-requires
-    tally-unknown-requires
+    tally-known-requires
     same-length
     same-length-2
     same-length-3

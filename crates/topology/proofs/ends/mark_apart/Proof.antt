@@ -45,7 +45,10 @@ as-mark-requires : tie.Need-as-mark-requires Inv-loop μ-loop
 as-mark-requires c κs = search needs
 
 slice-write-marks : tie.Need-slice-write-marks Inv-loop μ-loop
-slice-write-marks c = omega (arith, c .before .before .before .before .before .loop .inv .long, c .before .before .before .before .before .before .before .before .before .before .before .before .before .before .before .before .before .before .before .before .before .pre .8)
+slice-write-marks c =
+    let c5 = c .before .before .before .before .before in
+    let c21 = c5 .before .before .before .before .before .before .before .before .before .before .before .before .before .before .before .before in
+    omega (arith, c5 .loop .inv .long, c21 .pre .8)
 
 add-i : tie.Need-add-i Inv-loop μ-loop
 add-i c = search needs
@@ -54,7 +57,11 @@ loop-less : tie.Need-loop-less Inv-loop μ-loop
 loop-less c = search needs
 
 loop-again : tie.Need-loop-again Inv-loop μ-loop
-loop-again c = marked-more (omega (arith, c .before .before .before .before .before .loop .inv .long, c .before .before .before .before .before .before .before .before .before .before .before .before .before .before .before .before .before .before .before .before .before .pre .8)) (c .as-mark .ensures ∙ ap bit (c .before .is-apart .ensures)) (c .before .before .before .before .before .loop .inv)
+loop-again c =
+    let c1 = c .before in
+    let c5 = c1 .before .before .before .before in
+    let c21 = c5 .before .before .before .before .before .before .before .before .before .before .before .before .before .before .before .before in
+    marked-more (omega (arith, c5 .loop .inv .long, c21 .pre .8)) (c .as-mark .ensures ∙ ap bit (c1 .is-apart .ensures)) (c5 .loop .inv)
 
 same-length : tie.Need-same-length Inv-loop μ-loop
 same-length c = c .before .loop .inv .long

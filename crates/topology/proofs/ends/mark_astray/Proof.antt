@@ -60,7 +60,11 @@ loop-less : tie.Need-loop-less Inv-loop μ-loop
 loop-less c = search needs
 
 loop-again : tie.Need-loop-again Inv-loop μ-loop
-loop-again c = marked-more (omega (arith, c .before .before .before .before .before .before .loop .inv .long, c .before .before .before .before .before .before .before .before .before .before .before .before .before .before .before .before .before .pre .6)) (c .as-mark .ensures ∙ ap bit (c .before .is-astray .ensures)) (c .before .before .before .before .before .before .loop .inv)
+loop-again c =
+    let c1 = c .before in
+    let c6 = c1 .before .before .before .before .before in
+    let c17 = c6 .before .before .before .before .before .before .before .before .before .before .before in
+    marked-more (omega (arith, c6 .loop .inv .long, c17 .pre .6)) (c .as-mark .ensures ∙ ap bit (c1 .is-astray .ensures)) (c6 .loop .inv)
 
 same-length : tie.Need-same-length Inv-loop μ-loop
 same-length c = c .before .loop .inv .long

@@ -26,11 +26,16 @@ fill-positions-requires c κs =
 
 mark-astray-requires : tie.Need-mark-astray-requires
 mark-astray-requires c κs =
-    let p = c .before .before .before .before .before .before .before .before .before .before .before .before .before .before .before .before .before .before .before .before .before .before .before .before .before .before .pre in
-    let d = c .before .before .before .before .before .before .before .before .before .before .before .before .before .before .before .file-of2 .ensures in
-    let l = rw (← c .before .before .before .before .before .before .before .before .before .before .before .before .before .before .before .before .file-of .ensures) at (p .3) in
-    let f = read-fills (omega (arith, l, p .4)) (c .before .before .before .before .before .before .before .before .before .before .before .before .before .fill-names .ensures) in
-    let q = c .before .before .before .before .before .before .before .before .fill-positions .ensures in
+    let c8 = c .before .before .before .before .before .before .before .before in
+    let c13 = c8 .before .before .before .before .before in
+    let c15 = c13 .before .before in
+    let c16 = c15 .before in
+    let c26 = c16 .before .before .before .before .before .before .before .before .before .before in
+    let p = c26 .pre in
+    let d = c15 .file-of2 .ensures in
+    let l = rw (← c16 .file-of .ensures) at (p .3) in
+    let f = read-fills (omega (arith, l, p .4)) (c13 .fill-names .ensures) in
+    let q = c8 .fill-positions .ensures in
     (p .0, rw d (p .1), rw d (p .2), omega (arith, f .count, f .long), omega (arith, f .count, q .x .long), omega (arith, f .count, q .y .long), omega (arith, f .count, l, p .7))
 
 no-tally-requires : tie.Need-no-tally-requires
@@ -38,10 +43,15 @@ no-tally-requires c κs = search needs
 
 with-marks-requires : tie.Need-with-marks-requires
 with-marks-requires c κs =
-    let p = c .before .before .before .before .before .before .before .before .before .before .before .before .before .before .before .before .before .before .before .before .before .before .before .before .before .before .before .before .before .before .before .pre in
-    let l = rw (← c .before .before .before .before .before .before .before .before .before .before .before .before .before .before .before .before .before .before .before .before .before .file-of .ensures) at (p .3) in
-    let f = read-fills (omega (arith, l, p .4)) (c .before .before .before .before .before .before .before .before .before .before .before .before .before .before .before .before .before .before .fill-names .ensures) in
-    (none-little (c .before .no-tally .ensures), omega (arith, c .before .before .before .before .mark-astray .ensures .long, f .count, l, p .7), omega (arith, f .count, f .small))
+    let c1 = c .before in
+    let c4 = c1 .before .before .before in
+    let c18 = c4 .before .before .before .before .before .before .before .before .before .before .before .before .before .before in
+    let c21 = c18 .before .before .before in
+    let c31 = c21 .before .before .before .before .before .before .before .before .before .before in
+    let p = c31 .pre in
+    let l = rw (← c21 .file-of .ensures) at (p .3) in
+    let f = read-fills (omega (arith, l, p .4)) (c18 .fill-names .ensures) in
+    (none-little (c1 .no-tally .ensures), omega (arith, c4 .mark-astray .ensures .long, f .count, l, p .7), omega (arith, f .count, f .small))
 
 same-length : tie.Need-same-length
 same-length c = omega (arith, c .before .before .before .before .before .before .before .before .before .before .before .before .before .before .before .before .before .before .wanted .given)
@@ -57,10 +67,17 @@ same-length-4 c = omega (arith, c .before .before .before .before .marks .given)
 
 returns : tie.Need-returns
 returns c =
-    let p = c .before .before .before .before .before .before .before .before .before .before .before .before .before .before .before .before .before .before .before .before .before .before .before .before .before .before .before .before .before .before .before .before .pre in
-    let l = rw (← c .before .before .before .before .before .before .before .before .before .before .before .before .before .before .before .before .before .before .before .before .before .before .file-of .ensures) at (p .3) in
-    let f = read-fills (omega (arith, l, p .4)) (c .before .before .before .before .before .before .before .before .before .before .before .before .before .before .before .before .before .before .before .fill-names .ensures) in
-    points-in (filesOf (map now (c .before .before .before .before .before .before .before .before .before .before .before .before .before .before .before .before .before .before .before .before .before .before .before .before .before .before .before .before .before .before .before .before .args .files))) (c .before .before .before .before .before .before .before .before .before .before .before .before .before .before .before .before .before .before .before .before .before .before .file-of .ensures) (c .before .before .before .before .before .before .before .before .before .before .before .before .before .before .before .before .before .before .before .before .before .file-of2 .ensures) f (c .before .before .before .before .before .before .before .before .before .before .before .before .before .before .fill-positions .ensures) (c .before .before .no-tally .ensures) (c .before .before .before .before .before .mark-astray .ensures) (c .with-marks .ensures)
+    let c2 = c .before .before in
+    let c5 = c2 .before .before .before in
+    let c14 = c5 .before .before .before .before .before .before .before .before .before in
+    let c19 = c14 .before .before .before .before .before in
+    let c21 = c19 .before .before in
+    let c22 = c21 .before in
+    let c32 = c22 .before .before .before .before .before .before .before .before .before .before in
+    let p = c32 .pre in
+    let l = rw (← c22 .file-of .ensures) at (p .3) in
+    let f = read-fills (omega (arith, l, p .4)) (c19 .fill-names .ensures) in
+    points-in (filesOf (map now (c32 .args .files))) (c22 .file-of .ensures) (c21 .file-of2 .ensures) f (c14 .fill-positions .ensures) (c2 .no-tally .ensures) (c5 .mark-astray .ensures) (c .with-marks .ensures)
 
 pub tally-points-spec : {M : Type 1} → statement M
 tally-points-spec =

@@ -14,8 +14,10 @@ file-of-requires c κs = search needs
 
 prepare-ends-requires : tie.Need-prepare-ends-requires
 prepare-ends-requires c κs =
-    let p = c .before .before .before .before .before .before .before .before .before .before .before .before .before .before .before .before .before .before .before .before .before .before .before .pre in
-    let l = rw (← c .before .before .before .before .before .before .file-of .ensures) at (p .5 Tramo) in
+    let c6 = c .before .before .before .before .before .before in
+    let c23 = c6 .before .before .before .before .before .before .before .before .before .before .before .before .before .before .before .before .before in
+    let p = c23 .pre in
+    let l = rw (← c6 .file-of .ensures) at (p .5 Tramo) in
     let n = p .1 in (
       omega (arith, n .count, n .small),
       omega (arith, n .count, n .long),
@@ -31,8 +33,11 @@ file-of-requires-2 c κs = search needs
 
 fill-positions-requires : tie.Need-fill-positions-requires
 fill-positions-requires c κs =
-    let p = c .before .before .before .before .before .before .before .before .before .before .before .before .before .before .before .before .before .before .before .before .before .before .before .before .before .before .before .before .before .before .before .before .before .before .before .before .before .before .before .pre in
-    (rw (← c .before .before .file-of2 .ensures) at (p .5 Vertice), omega (arith, c .before .before .before .before .before .before .vx .given, p .9), p .10)
+    let c2 = c .before .before in
+    let c6 = c2 .before .before .before .before in
+    let c39 = c6 .before .before .before .before .before .before .before .before .before .before .before .before .before .before .before .before .before .before .before .before .before .before .before .before .before .before .before .before .before .before .before .before .before in
+    let p = c39 .pre in
+    (rw (← c2 .file-of2 .ensures) at (p .5 Vertice), omega (arith, c6 .vx .given, p .9), p .10)
 
 fill-names-requires : tie.Need-fill-names-requires
 fill-names-requires c κs = search needs
@@ -42,17 +47,26 @@ fill-names-requires-2 c κs = search needs
 
 tally-ends-requires : tie.Need-tally-ends-requires
 tally-ends-requires c κs =
-    let p = c .before .before .before .before .before .before .before .before .before .before .before .before .before .before .before .before .before .before .before .before .before .before .before .before .before .before .before .before .before .before .before .before .before .before .before .before .before .before .before .before .before .before .before .before .before .before .before .before .before .before .before .before .before .before .before .before .before .before .pre in
-    let t = c .before .before .before .before .before .before .before .before .before .before .before .before .before .before .before .before .before .before .before .before .before .before .before .before .before .before .before .before .before .before .before .before .before .before .before .before .before .before .before .before .before .file-of .ensures in
+    let c8 = c .before .before .before .before .before .before .before .before in
+    let c12 = c8 .before .before .before .before in
+    let c18 = c12 .before .before .before .before .before .before in
+    let c21 = c18 .before .before .before in
+    let c27 = c21 .before .before .before .before .before .before in
+    let c33 = c27 .before .before .before .before .before .before in
+    let c34 = c33 .before in
+    let c41 = c34 .before .before .before .before .before .before .before in
+    let c58 = c41 .before .before .before .before .before .before .before .before .before .before .before .before .before .before .before .before .before in
+    let p = c58 .pre in
+    let t = c41 .file-of .ensures in
     let l = rw (← t) at (p .5 Tramo) in
-    let ends = c .before .before .before .before .before .before .before .before .before .before .before .before .before .before .before .before .before .before .before .before .before .before .before .before .before .before .before .before .before .before .before .before .before .before .prepare-ends .ensures in
-    let starts = read-fills (omega (arith, l, c .before .before .before .before .before .before .before .before .before .before .before .before .before .before .before .before .before .before .before .before .before .before .before .before .before .before .before .before .before .before .before .before .before .a .given, p .6)) (c .before .before .before .before .before .before .before .before .before .before .before .before .fill-names .ensures) in
-    let lasts = read-fills (omega (arith, l, c .before .before .before .before .before .before .before .before .before .before .before .before .before .before .before .before .before .before .before .before .before .before .before .before .before .before .before .b .given, p .8)) (c .before .before .before .before .before .before .before .before .fill-names2 .ensures) in (
+    let ends = c34 .prepare-ends .ensures in
+    let starts = read-fills (omega (arith, l, c33 .a .given, p .6)) (c12 .fill-names .ensures) in
+    let lasts = read-fills (omega (arith, l, c27 .b .given, p .8)) (c8 .fill-names2 .ensures) in (
       p .0,
       p .1,
       p .2,
       p .3,
-      positions-with (p .1) (rw (c .before .before .before .before .before .before .before .before .before .before .before .before .before .before .before .before .before .before .before .before .before .file-of2 .ensures) at (c .before .before .before .before .before .before .before .before .before .before .before .before .before .before .before .before .before .before .fill-positions .ensures)),
+      positions-with (p .1) (rw (c21 .file-of2 .ensures) at (c18 .fill-positions .ensures)),
       p .4,
       rw t at ends,
       rw t at (fills-with ends starts),
@@ -61,7 +75,10 @@ tally-ends-requires c κs =
     )
 
 same-length : tie.Need-same-length
-same-length c = omega (arith, c .before .before .before .before .before .before .before .before .before .before .before .before .before .before .a2 .given, c .before .before .before .before .before .before .before .before .before .before .before .before .before .before .before .before .before .before .before .before .before .before .before .before .before .before .before .before .before .before .before .before .before .before .before .before .a .given)
+same-length c =
+    let c14 = c .before .before .before .before .before .before .before .before .before .before .before .before .before .before in
+    let c36 = c14 .before .before .before .before .before .before .before .before .before .before .before .before .before .before .before .before .before .before .before .before .before .before in
+    omega (arith, c14 .a2 .given, c36 .a .given)
 
 same-length-2 : tie.Need-same-length-2
 same-length-2 c = omega (arith, c .before .before .before .before .before .before .before .before .before .before .before .before .before .before .before .before .before .before .before .before .before .before .before .before .before .before .before .before .before .before .before .before .before .before .a-hints .given)
@@ -70,10 +87,16 @@ same-length-3 : tie.Need-same-length-3
 same-length-3 c = omega (arith, c .before .before .before .before .before .before .before .before .before .before .before .before .before .before .before .before .before .before .before .before .before .before .before .before .before .before .before .before .before .before .before .before .a-order .given)
 
 same-length-4 : tie.Need-same-length-4
-same-length-4 c = omega (arith, c .before .before .before .before .before .before .before .before .before .before .b2 .given, c .before .before .before .before .before .before .before .before .before .before .before .before .before .before .before .before .before .before .before .before .before .before .before .before .before .before .before .before .before .before .b .given)
+same-length-4 c =
+    let c10 = c .before .before .before .before .before .before .before .before .before .before in
+    let c30 = c10 .before .before .before .before .before .before .before .before .before .before .before .before .before .before .before .before .before .before .before .before in
+    omega (arith, c10 .b2 .given, c30 .b .given)
 
 same-length-5 : tie.Need-same-length-5
-same-length-5 c = omega (arith, c .before .before .before .before .before .before .before .before .before .before .before .before .before .before .before .before .before .before .before .before .vx2 .given, c .before .before .before .before .before .before .before .before .before .before .before .before .before .before .before .before .before .before .before .before .before .before .before .before .before .before .before .before .vx .given)
+same-length-5 c =
+    let c20 = c .before .before .before .before .before .before .before .before .before .before .before .before .before .before .before .before .before .before .before .before in
+    let c28 = c20 .before .before .before .before .before .before .before .before in
+    omega (arith, c20 .vx2 .given, c28 .vx .given)
 
 same-length-6 : tie.Need-same-length-6
 same-length-6 c = omega (arith, c .before .before .before .before .before .before .before .before .before .before .before .before .before .before .before .before .before .before .vy .given)

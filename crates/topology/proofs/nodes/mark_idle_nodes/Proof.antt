@@ -12,7 +12,10 @@ mark-unnamed-requires c κs =
     (p .0, p .2, p .3, p .4, p .5, p .7)
 
 first-marked-requires : tie.Need-first-marked-requires
-first-marked-requires c κs = omega (arith, c .before .before .marks .given, c .before .before .before .before .before .before .before .before .before .before .before .before .before .before .before .before .before .before .before .before .before .before .before .before .before .before .before .pre .3)
+first-marked-requires c κs =
+    let c2 = c .before .before in
+    let c27 = c2 .before .before .before .before .before .before .before .before .before .before .before .before .before .before .before .before .before .before .before .before .before .before .before .before .before in
+    omega (arith, c2 .marks .given, c27 .pre .3)
 
 enum-told : tie.Need-enum-told
 enum-told c = search needs
@@ -30,12 +33,19 @@ same-length-3 : tie.Need-same-length-3
 same-length-3 c = search needs
 
 returns : tie.Need-returns
-returns c = idle-none _ _ _ _ (c .before .before .before .before .before .before .before .before .before .before .before .before .before .before .before .before .before .before .before .before .before .before .before .before .before .before .before .before .before .before .pre .1) (c .before .before .before .before .before .before .before .before .before .before .mark-unnamed .ensures) (c .before .before .first-marked .ensures) (c .enum-told2 .given .1)
+returns c =
+    let c2 = c .before .before in
+    let c10 = c2 .before .before .before .before .before .before .before .before in
+    let c30 = c10 .before .before .before .before .before .before .before .before .before .before .before .before .before .before .before .before .before .before .before .before in
+    idle-none _ _ _ _ (c30 .pre .1) (c10 .mark-unnamed .ensures) (c2 .first-marked .ensures) (c .enum-told2 .given .1)
 
 unmark-places-requires : tie.Need-unmark-places-requires
 unmark-places-requires c κs =
-    let p = c .before .before .before .before .before .before .before .before .before .before .before .before .before .before .before .before .before .before .before .before .before .before .before .before .before .before .before .before .before .before .before .before .before .before .before .before .before .before .pre in
-    (p .6, omega (arith, c .before .before .before .before .before .before .before .before .before .before .before .before .before .before .before .before .before .xs .given, p .7), p .8, p .9, p .10, p .11, omega (arith, c .before .before .before .before .before .before .before .before .before .before .before .before .before .marks .given, p .3))
+    let c13 = c .before .before .before .before .before .before .before .before .before .before .before .before .before in
+    let c17 = c13 .before .before .before .before in
+    let c38 = c17 .before .before .before .before .before .before .before .before .before .before .before .before .before .before .before .before .before .before .before .before .before in
+    let p = c38 .pre in
+    (p .6, omega (arith, c17 .xs .given, p .7), p .8, p .9, p .10, p .11, omega (arith, c13 .marks .given, p .3))
 
 same-length-4 : tie.Need-same-length-4
 same-length-4 c = search needs
@@ -65,7 +75,11 @@ same-length-12 : tie.Need-same-length-12
 same-length-12 c = search needs
 
 returns-2 : tie.Need-returns-2
-returns-2 c = idle-left _ _ _ _ (c .before .before .before .before .before .before .before .before .before .before .before .before .before .before .before .before .before .before .before .before .before .before .before .before .before .before .before .before .before .before .before .before .before .before .before .before .before .before .before .before .before .before .before .before .before .before .before .before .before .before .before .before .before .before .before .pre .1) (c .before .before .before .before .before .before .before .before .before .before .before .before .before .before .before .before .before .before .before .before .before .before .before .before .before .before .before .before .before .before .before .before .before .before .before .mark-unnamed .ensures) (c .before .before .before .before .before .before .before .before .before .before .before .before .before .before .before .before .unmark-places .ensures)
+returns-2 c =
+    let c16 = c .before .before .before .before .before .before .before .before .before .before .before .before .before .before .before .before in
+    let c35 = c16 .before .before .before .before .before .before .before .before .before .before .before .before .before .before .before .before .before .before .before in
+    let c55 = c35 .before .before .before .before .before .before .before .before .before .before .before .before .before .before .before .before .before .before .before .before in
+    idle-left _ _ _ _ (c55 .pre .1) (c35 .mark-unnamed .ensures) (c16 .unmark-places .ensures)
 
 pub mark-idle-nodes-spec : {M : Type 1} → statement M
 mark-idle-nodes-spec =

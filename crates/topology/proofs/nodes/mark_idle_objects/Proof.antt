@@ -17,8 +17,11 @@ mark-used-requires c κs =
 
 mark-unheld-requires : tie.Need-mark-unheld-requires
 mark-unheld-requires c κs =
-    let p = c .before .before .before .before .before .before .before .before .before .before .before .before .before .before .before .before .before .before .before .before .before .pre in
-    (p .0, omega (arith, c .before .before .before .used2 .given, c .before .before .before .before .before .before .before .before .before .before .used .given, p .2), p .3)
+    let c3 = c .before .before .before in
+    let c10 = c3 .before .before .before .before .before .before .before in
+    let c21 = c10 .before .before .before .before .before .before .before .before .before .before .before in
+    let p = c21 .pre in
+    (p .0, omega (arith, c3 .used2 .given, c10 .used .given, p .2), p .3)
 
 same-length : tie.Need-same-length
 same-length c = omega (arith, c .before .before .before .before .before .before .before .before .refs .given)
@@ -31,8 +34,12 @@ same-length-3 c = omega (arith, c .before .marks .given)
 
 returns : tie.Need-returns
 returns c =
-    object-marks _ _ (c .before .before .before .before .before .before .before .before .before .before .before .before .before .before .before .before .before .before .before .before .before .before .before .before .pre .1)
-    (idle-marks (c .before .before .before .before .before .before .before .before .before .before .before .before .before .before .clear .ensures) (c .before .before .before .before .before .before .before .before .before .mark-used .ensures) (c .before .before .mark-unheld .ensures))
+    let c2 = c .before .before in
+    let c9 = c2 .before .before .before .before .before .before .before in
+    let c14 = c9 .before .before .before .before .before in
+    let c24 = c14 .before .before .before .before .before .before .before .before .before .before in
+    object-marks _ _ (c24 .pre .1)
+    (idle-marks (c14 .clear .ensures) (c9 .mark-used .ensures) (c2 .mark-unheld .ensures))
 
 pub mark-idle-objects-spec : {M : Type 1} → statement M
 mark-idle-objects-spec =

@@ -17,9 +17,12 @@ fill-names-requires c κs = search needs
 
 fill-ends-requires : tie.Need-fill-ends-requires
 fill-ends-requires c κs =
-    let p = c .before .before .before .before .before .before .before .before .before .before .before .before .before .before .before .before .before .before .before .before .before .before .before .before .before .before .before .before .before .before .before .pre in
-    let f = read-fills (p .5) (c .before .before .before .before .before .before .before .before .fill-names .ensures) in
-    (c .before .before .before .before .before .before .before .before .before .before .before .before .before .before .before .before .before .before .prepare-tops .ensures, omega (arith, f .count, f .long), omega (arith, f .count, p .6))
+    let c8 = c .before .before .before .before .before .before .before .before in
+    let c18 = c8 .before .before .before .before .before .before .before .before .before .before in
+    let c31 = c18 .before .before .before .before .before .before .before .before .before .before .before .before .before in
+    let p = c31 .pre in
+    let f = read-fills (p .5) (c8 .fill-names .ensures) in
+    (c18 .prepare-tops .ensures, omega (arith, f .count, f .long), omega (arith, f .count, p .6))
 
 same-length : tie.Need-same-length
 same-length c = omega (arith, c .before .before .before .before .before .before .before .before .before .before .before .before .before .before .before .before .before .before .before .before .lines .given)
@@ -41,8 +44,12 @@ same-length-6 c = omega (arith, c .before .out .given)
 
 returns : tie.Need-returns
 returns c =
-    let p = c .before .before .before .before .before .before .before .before .before .before .before .before .before .before .before .before .before .before .before .before .before .before .before .before .before .before .before .before .before .before .before .before .before .before .pre in
-    ends-filled (c .before .before .before .before .before .before .before .before .before .before .before .before .before .before .before .before .before .before .before .before .before .before .before .before .before .before .before .before .before .before .before .before .before .before .args .keys .now) (c .before .before .before .before .before .before .before .before .before .before .before .before .before .before .before .before .before .before .before .before .before .before .before .before .before .before .before .before .before .before .before .before .before .before .args .n) (read-fills (p .5) (c .before .before .before .before .before .before .before .before .before .before .before .fill-names .ensures)) (omega (arith, c .before .out .given, p .6)) (c .before .before .fill-ends .ensures)
+    let c1 = c .before in
+    let c2 = c1 .before in
+    let c11 = c2 .before .before .before .before .before .before .before .before .before in
+    let c34 = c11 .before .before .before .before .before .before .before .before .before .before .before .before .before .before .before .before .before .before .before .before .before .before .before in
+    let p = c34 .pre in
+    ends-filled (c34 .args .keys .now) (c34 .args .n) (read-fills (p .5) (c11 .fill-names .ensures)) (omega (arith, c1 .out .given, p .6)) (c2 .fill-ends .ensures)
 
 pub prepare-ends-spec : {M : Type 1} → statement M
 prepare-ends-spec =

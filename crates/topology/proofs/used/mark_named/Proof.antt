@@ -5,8 +5,9 @@ use mathlib.Core.Path.{refl}
 use native.Mathlib.Omega.{arith}
 use Rattle.laws.specs.Find.{names}
 use Rattle.index.specs.Keys.{listed}
+use Rattle.index.proofs.LookLaws.{sought-below}
 use Rattle.topology.specs.machinery.Used.{Used}
-use Rattle.topology.proofs.UsedLaws.{sought-below, used-start, used-more, used-end}
+use Rattle.topology.proofs.UsedLaws.{used-start, used-more, used-end}
 use borrow.Author.Needs.{needs}
 use Rattle.topology.proofs.used.mark_named.Statement.{statement}
 use Rattle.topology.proofs.used.mark_named.Tie as tie
@@ -40,7 +41,12 @@ loop-less : tie.Need-loop-less Inv-loop μ-loop
 loop-less c = search needs
 
 loop-again : tie.Need-loop-again Inv-loop μ-loop
-loop-again c = (search needs, used-more _ _ (c .before .before .before .before .before .before .before .loop .inv .1) (c .before .before .before .before .before .before .before .before .before .before .before .before .before .pre .1) refl (c .before .before .before .before .look .ensures .0) (c .before .before .before .before .look .ensures .1) (c .before .before .put .ensures))
+loop-again c =
+    let c2 = c .before .before in
+    let c4 = c2 .before .before in
+    let c7 = c4 .before .before .before in
+    let c13 = c7 .before .before .before .before .before .before in
+    (search needs, used-more _ _ (c7 .loop .inv .1) (c13 .pre .1) refl (c4 .look .ensures .0) (c4 .look .ensures .1) (c2 .put .ensures))
 
 same-length : tie.Need-same-length Inv-loop μ-loop
 same-length c = c .before .loop .inv .1 .long

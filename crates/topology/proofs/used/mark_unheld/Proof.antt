@@ -4,7 +4,8 @@ use Prim.Native.Nat.{_-_}
 use mathlib.Core.Path.{ap, _∙_}
 use Rattle.laws.specs.Count.{bit}
 use Rattle.topology.specs.machinery.Used.{Unheld}
-use Rattle.topology.proofs.UsedLaws.{sought-below, unheld-start, unheld-more, unheld-end}
+use Rattle.index.proofs.LookLaws.{sought-below}
+use Rattle.topology.proofs.UsedLaws.{unheld-start, unheld-more, unheld-end}
 use borrow.Author.Needs.{needs}
 use native.Mathlib.Omega.{arith}
 use Rattle.topology.proofs.used.mark_unheld.Statement.{statement}
