@@ -30,7 +30,11 @@ use Rattle.index.proofs.OrderLaws.{same-or}
 use Rattle.index.proofs.WayLaws.{look-hinted}
 use Rattle.record.specs.machinery.Columns.{Fills}
 use Rattle.topology.proofs.LentLaws.{one-record, names-lent}
-use Rattle.topology.specs.machinery.Used.{putAt, freeAt, Used, Free, Unheld}
+use Rattle.topology.specs.machinery.Used.{putAt, freeAt, Used, Named, Free, Unheld, isEnd, isNamed}
+use Rattle.record.specs.declared.kind.Kind.the-variants.{ObPun}
+use Rattle.record.specs.Says.{Table}
+use Rattle.record.specs.Names.{nameAt}
+use Rattle.topology.specs.Rules.{tramoStart, tramoEnd}
 
 -- A LOOK-UP that finds a record has its key, whatever the table says
 nothing-at : {r : ℕ} → Nothing ≡ At r → ⊥
@@ -251,3 +255,47 @@ pub hand-marks :
     {out before marks : List ℕ} {column : ℕ → ℕ} {n r : ℕ} (p : ℕ → Bool) → Fills out column n r → Marked before marks (λ i. p (getD out i 0)) r
     → Marked before marks (λ i. p (column i)) n
 hand-marks p h m = record { long = m .long; says = λ i l. m .says i (omega (arith, h .count)) ∙ ap (λ (z : ℕ). bit (p z)) (h .holds i l) }
+
+-- SINCE NONE WAS: none is, what a file names is too, another test that says the same
+pub named-start :
+    (ids order hints : List ℕ) (t : Bool) {n : ℕ} {dirty clean : List ℕ} → n ≤ length dirty → Marked dirty clean (λ i. false) n
+    → Named ids order hints t n clean (λ x. false)
+named-start ids order hints t l m = record { room = omega (arith, m .long); marked = λ x r u found. ap (λ (v : ℕ). eqb v 0) (m .says r u) }
+
+nor : (p q : Bool) → (not p && not q) ≡ not (p || q)
+nor true q = refl
+nor false q = refl
+
+pub named-then :
+    {ids order hints : List ℕ} {t : Bool} {n : ℕ} {used after : List ℕ} {p q : ℕ → Bool} → Named ids order hints t n used p
+    → Used ids order hints t n used after q → Named ids order hints t n after (λ x. p x || q x)
+named-then {p = p} {q = q} s u =
+    record {
+      room = omega (arith, u .long, s .room);
+      marked = λ x r l found. u .marked x r found ∙ ap (λ (z : Bool). z && not (q x)) (s .marked x r l found) ∙ nor (p x) (q x);
+    }
+
+or-or : (a b c : Bool) → ((a || b) || c) ≡ (a || (b || c))
+or-or true b c = refl
+or-or false b c = refl
+
+pub named-all :
+    (points tramos : Table) {ids order hints : List ℕ} {t : Bool} {n : ℕ} {used : List ℕ}
+    → Named ids order hints t n used (λ x. isEnd tramos x || names (λ j. nameAt ObPun points j 3) (points .count) x)
+    → Named ids order hints t n used (isNamed points tramos)
+unfolding isEnd isNamed
+named-all points tramos s =
+    record {
+      room = s .room;
+      marked =
+          λ x r l found.
+          s .marked x r l found
+          ∙ ap not (or-or (names (tramoStart tramos) (tramos .count) x) (names (tramoEnd tramos) (tramos .count) x) (names (λ j. nameAt ObPun points j 3) (points .count) x));
+    }
+
+-- what is not in use is not named
+pub idle-named :
+    {ids order hints : List ℕ} {t : Bool} {n : ℕ} {used before marks : List ℕ} {test : ℕ → Bool} → Named ids order hints t n used test
+    → Unheld ids order hints t n used before marks n → Marked before marks (λ i. not (test (getD ids i 0))) n
+idle-named s h =
+    record { long = h .long; says = λ i l. let f = h .each i l in f .says ∙ ap bit (s .marked _ _ (f .within) (f .found)) }

@@ -3,6 +3,7 @@ use crate::places::node_at;
 use crate::places::scan_node;
 use crate::places::x_at;
 use crate::places::y_at;
+use crate::used::put;
 use index::Found;
 use index::marks::as_mark;
 use index::way::Way;
@@ -14,6 +15,9 @@ ghost use mathlib.Core.Path.{_≡_};
 ghost use Prim.Native.Nat.{ℕ, _≤_};
 ghost use lib.Dec.{eqb};
 ghost use lib.ListN.{length, getD};
+ghost use Rattle.laws.specs.Find.{names};
+ghost use Rattle.index.specs.Keys.{listed};
+ghost use Rattle.index.specs.Look.{Sought};
 ghost use Rattle.index.specs.Marks.{Marked};
 ghost use Rattle.index.specs.Way.{Ready};
 ghost use Rattle.record.specs.Says.{tableOf};
@@ -21,6 +25,7 @@ ghost use Rattle.record.specs.Names.{nameAt, keyOf};
 ghost use Rattle.topology.specs.machinery.Ends.{endKey, isGone, apartAt, astrayAt};
 ghost use Rattle.record.specs.machinery.Columns.{Fills};
 ghost use Rattle.topology.specs.machinery.Places.{Positions};
+ghost use Rattle.topology.specs.machinery.Used.{Used};
 ghost use Rattle.topology.specs.Rules.{meets, elsewhere};
 
 // Whether a vertex with the key is where a node with the name is, by scanning.
@@ -66,15 +71,29 @@ fn is_elsewhere<'a, 'b>(
     ny: &'b [u64],
     key: u64,
     wanted: u64,
+    node: Found,
 ) -> bool
-    requires { ⌜ Ready (now keys) (now order) (now vertices) n way × Fills (now keys) (keyOf Kind.Vertice (tableOf (now vertice) Kind.Vertice)) (tableOf (now vertice) Kind.Vertice .count) n × Ready (now ids) (now ranks) (now nodes) m by × Fills (now ids) (λ j. nameAt Kind.Nodo (tableOf (now nodo) Kind.Nodo) j 1) (tableOf (now nodo) Kind.Nodo .count) m × Positions (now vx) (now vy) Kind.Vertice (tableOf (now vertice) Kind.Vertice) n × Positions (now nx) (now ny) Kind.Nodo (tableOf (now nodo) Kind.Nodo) m ⌝ }
+    requires { ⌜ Ready (now keys) (now order) (now vertices) n way × Fills (now keys) (keyOf Kind.Vertice (tableOf (now vertice) Kind.Vertice)) (tableOf (now vertice) Kind.Vertice .count) n × Ready (now ids) (now ranks) (now nodes) m by × Fills (now ids) (λ j. nameAt Kind.Nodo (tableOf (now nodo) Kind.Nodo) j 1) (tableOf (now nodo) Kind.Nodo .count) m × Positions (now vx) (now vy) Kind.Vertice (tableOf (now vertice) Kind.Vertice) n × Positions (now nx) (now ny) Kind.Nodo (tableOf (now nodo) Kind.Nodo) m × Sought (now ids) m wanted node ⌝ }
     ensures { λ r. ⌜ r ≡ elsewhere (tableOf (now (vertice .entry)) Kind.Vertice) (tableOf (now (nodo .entry)) Kind.Nodo) key wanted ⌝ }
 {
     let found = look(keys, order, vertices, way, n, key);
     match found {
         Found::Nothing => false,
         Found::At(j) => {
-            if node_at(nodo, ids, ranks, nodes, by, m, nx, ny, wanted, vx[j], vy[j]) {
+            if node_at(
+                nodo,
+                ids,
+                ranks,
+                nodes,
+                by,
+                m,
+                nx,
+                ny,
+                wanted,
+                node,
+                vx[j],
+                vy[j],
+            ) {
                 return false;
             }
             if way.apart {
@@ -134,8 +153,9 @@ fn is_apart<'a, 'b>(
     ny: &'b [u64],
     top: u64,
     wanted: u64,
+    node: Found,
 ) -> bool
-    requires { ⌜ Ready (now keys) (now order) (now vertices) n way × Fills (now keys) (keyOf Kind.Vertice (tableOf (now vertice) Kind.Vertice)) (tableOf (now vertice) Kind.Vertice .count) n × Ready (now ids) (now ranks) (now nodes) m by × Fills (now ids) (λ j. nameAt Kind.Nodo (tableOf (now nodo) Kind.Nodo) j 1) (tableOf (now nodo) Kind.Nodo .count) m × Positions (now vx) (now vy) Kind.Vertice (tableOf (now vertice) Kind.Vertice) n × Positions (now nx) (now ny) Kind.Nodo (tableOf (now nodo) Kind.Nodo) m ⌝ }
+    requires { ⌜ Ready (now keys) (now order) (now vertices) n way × Fills (now keys) (keyOf Kind.Vertice (tableOf (now vertice) Kind.Vertice)) (tableOf (now vertice) Kind.Vertice .count) n × Ready (now ids) (now ranks) (now nodes) m by × Fills (now ids) (λ j. nameAt Kind.Nodo (tableOf (now nodo) Kind.Nodo) j 1) (tableOf (now nodo) Kind.Nodo .count) m × Positions (now vx) (now vy) Kind.Vertice (tableOf (now vertice) Kind.Vertice) n × Positions (now nx) (now ny) Kind.Nodo (tableOf (now nodo) Kind.Nodo) m × Sought (now ids) m wanted node ⌝ }
     ensures { λ r. ⌜ r ≡ apartAt end (tableOf (now (vertice .entry)) Kind.Vertice) (tableOf (now (nodo .entry)) Kind.Nodo) top wanted ⌝ }
 {
     if end.is_gone(top) {
@@ -160,10 +180,12 @@ fn is_apart<'a, 'b>(
         ny,
         end.key(top),
         wanted,
+        node,
     )
 }
 
 // Marks, of t tramos, those whose end lies elsewhere than its node, by the columns of the highest keys of their lines and of the nodes' names.
+// Each node is looked up once: what it finds is in use.
 pub(crate) fn mark_apart<'a, 'b>(
     end: End,
     ends: &'b [u64],
@@ -185,13 +207,18 @@ pub(crate) fn mark_apart<'a, 'b>(
     m: usize,
     nx: &'b [u64],
     ny: &'b [u64],
+    used: &mut [u8],
     marks: &mut [u8],
 )
-    requires { ⌜ Ready (now keys) (now order) (now vertices) n way × Fills (now keys) (keyOf Kind.Vertice (tableOf (now vertice) Kind.Vertice)) (tableOf (now vertice) Kind.Vertice .count) n × Ready (now ids) (now ranks) (now nodes) m by × Fills (now ids) (λ j. nameAt Kind.Nodo (tableOf (now nodo) Kind.Nodo) j 1) (tableOf (now nodo) Kind.Nodo .count) m × Positions (now vx) (now vy) Kind.Vertice (tableOf (now vertice) Kind.Vertice) n × Positions (now nx) (now ny) Kind.Nodo (tableOf (now nodo) Kind.Nodo) m × (t ≤ length (now ends)) × (t ≤ length (now wanted)) × (t ≤ length (now marks)) ⌝ }
+    requires { ⌜ Ready (now keys) (now order) (now vertices) n way × Fills (now keys) (keyOf Kind.Vertice (tableOf (now vertice) Kind.Vertice)) (tableOf (now vertice) Kind.Vertice .count) n × Ready (now ids) (now ranks) (now nodes) m by × Fills (now ids) (λ j. nameAt Kind.Nodo (tableOf (now nodo) Kind.Nodo) j 1) (tableOf (now nodo) Kind.Nodo .count) m × Positions (now vx) (now vy) Kind.Vertice (tableOf (now vertice) Kind.Vertice) n × Positions (now nx) (now ny) Kind.Nodo (tableOf (now nodo) Kind.Nodo) m × (t ≤ length (now ends)) × (t ≤ length (now wanted)) × (t ≤ length (now marks)) × (m ≤ length (now used)) ⌝ }
     ensures { λ _. ⌜ Marked (now (marks .entry)) (now (marks .exit)) (λ i. apartAt end (tableOf (now (vertice .entry)) Kind.Vertice) (tableOf (now (nodo .entry)) Kind.Nodo) (getD (now (ends .entry)) i 0) (getD (now (wanted .entry)) i 0)) t ⌝ }
+    ensures held { λ _. ⌜ Used (now (ids .entry)) (now (ranks .entry)) (now (nodes .entry)) (by .hinted) m (now (used .entry)) (now (used .exit)) (names (listed (now (wanted .entry))) t) ⌝ }
 {
     let mut i = 0;
     while i < t {
+        let x = wanted[i];
+        let node = look(ids, ranks, nodes, by, m, x);
+        put(node, used);
         marks[i] = as_mark(is_apart(
             end,
             vertice,
@@ -211,7 +238,8 @@ pub(crate) fn mark_apart<'a, 'b>(
             nx,
             ny,
             ends[i],
-            wanted[i],
+            x,
+            node,
         ));
         i += 1;
     }
@@ -240,19 +268,21 @@ fn is_astray<'a, 'b>(
     nx: &'b [u64],
     ny: &'b [u64],
     wanted: u64,
+    node: Found,
     x: u64,
     y: u64,
 ) -> bool
-    requires { ⌜ Ready (now ids) (now ranks) (now nodes) m by × Fills (now ids) (λ j. nameAt Kind.Nodo (tableOf (now nodo) Kind.Nodo) j 1) (tableOf (now nodo) Kind.Nodo .count) m × Positions (now nx) (now ny) Kind.Nodo (tableOf (now nodo) Kind.Nodo) m ⌝ }
+    requires { ⌜ Ready (now ids) (now ranks) (now nodes) m by × Fills (now ids) (λ j. nameAt Kind.Nodo (tableOf (now nodo) Kind.Nodo) j 1) (tableOf (now nodo) Kind.Nodo .count) m × Positions (now nx) (now ny) Kind.Nodo (tableOf (now nodo) Kind.Nodo) m × Sought (now ids) m wanted node ⌝ }
     ensures { λ r. ⌜ r ≡ astrayAt (tableOf (now (nodo .entry)) Kind.Nodo) wanted x y ⌝ }
 {
     if wanted == 0 {
         return false;
     }
-    !node_at(nodo, ids, ranks, nodes, by, m, nx, ny, wanted, x, y)
+    !node_at(nodo, ids, ranks, nodes, by, m, nx, ny, wanted, node, x, y)
 }
 
-// Marks, of n point objects, those that lie elsewhere than their node, by the columns of what they name and of X and Y.
+// Marks, of n point objects, those that lie elsewhere than their node, by the columns of what they name and of X and Y. What they name is in
+// use.
 pub(crate) fn mark_astray<'a, 'b>(
     wanted: &'b [u64],
     xs: &'b [u64],
@@ -266,13 +296,18 @@ pub(crate) fn mark_astray<'a, 'b>(
     m: usize,
     nx: &'b [u64],
     ny: &'b [u64],
+    used: &mut [u8],
     marks: &mut [u8],
 )
-    requires { ⌜ Ready (now ids) (now ranks) (now nodes) m by × Fills (now ids) (λ j. nameAt Kind.Nodo (tableOf (now nodo) Kind.Nodo) j 1) (tableOf (now nodo) Kind.Nodo .count) m × Positions (now nx) (now ny) Kind.Nodo (tableOf (now nodo) Kind.Nodo) m × (n ≤ length (now wanted)) × (n ≤ length (now xs)) × (n ≤ length (now ys)) × (n ≤ length (now marks)) ⌝ }
+    requires { ⌜ Ready (now ids) (now ranks) (now nodes) m by × Fills (now ids) (λ j. nameAt Kind.Nodo (tableOf (now nodo) Kind.Nodo) j 1) (tableOf (now nodo) Kind.Nodo .count) m × Positions (now nx) (now ny) Kind.Nodo (tableOf (now nodo) Kind.Nodo) m × (n ≤ length (now wanted)) × (n ≤ length (now xs)) × (n ≤ length (now ys)) × (n ≤ length (now marks)) × (m ≤ length (now used)) ⌝ }
     ensures { λ _. ⌜ Marked (now (marks .entry)) (now (marks .exit)) (λ i. astrayAt (tableOf (now (nodo .entry)) Kind.Nodo) (getD (now (wanted .entry)) i 0) (getD (now (xs .entry)) i 0) (getD (now (ys .entry)) i 0)) n ⌝ }
+    ensures held { λ _. ⌜ Used (now (ids .entry)) (now (ranks .entry)) (now (nodes .entry)) (by .hinted) m (now (used .entry)) (now (used .exit)) (names (listed (now (wanted .entry))) n) ⌝ }
 {
     let mut i = 0;
     while i < n {
+        let x = wanted[i];
+        let node = look(ids, ranks, nodes, by, m, x);
+        put(node, used);
         marks[i] = as_mark(is_astray(
             nodo,
             ids,
@@ -282,7 +317,8 @@ pub(crate) fn mark_astray<'a, 'b>(
             m,
             nx,
             ny,
-            wanted[i],
+            x,
+            node,
             xs[i],
             ys[i],
         ));

@@ -17,6 +17,7 @@ use crate::tops::prepare_ends;
 use index::FEW_HINTS;
 use index::Found;
 use index::HINTS;
+use index::marks::clear;
 use index::tally::Tally;
 use index::tally::no_tally;
 use index::tally::with_marks;
@@ -41,6 +42,7 @@ ghost use mathlib.Core.Path.{_≡_};
 ghost use mathlib.Core.List.{List, map};
 ghost use Prim.Native.Nat.{ℕ, _≤_, _<_};
 ghost use lib.ListN.{length, getD};
+ghost use Rattle.laws.specs.Find.{names};
 ghost use Rattle.index.specs.Keys.{listed};
 ghost use Rattle.index.specs.Way.{Ready};
 ghost use Rattle.record.specs.Table.{limit};
@@ -51,6 +53,7 @@ ghost use Rattle.record.specs.machinery.Columns.{Fills};
 ghost use Rattle.keys.specs.machinery.Groups.{atFile};
 ghost use Rattle.topology.specs.machinery.Cells.{fiftyTally, fiftyTallies};
 ghost use Rattle.topology.specs.machinery.Places.{orIndex, Positions};
+ghost use Rattle.topology.specs.machinery.Used.{Used, Named, isEnd, isNamed};
 ghost use Rattle.topology.specs.Rules.{highestIn, tramoLine, tramoStart, tramoEnd, reasonsAt};
 ghost use Rattle.topology.specs.machinery.Findings.{topologyIn, topologyFinding};
 
@@ -95,10 +98,12 @@ fn tally_ends<'a, 'b>(
     m: usize,
     nx: &'b [u64],
     ny: &'b [u64],
+    named: &mut [u8],
     marks: &mut [u8],
 ) -> Tally
-    requires { ⌜ Ready (now keys) (now order) (now vertices) n way × Fills (now keys) (keyOf Kind.Vertice (deliveryOf (filesOf (map now files)) Kind.Vertice)) (deliveryOf (filesOf (map now files)) Kind.Vertice .count) n × Ready (now ids) (now ranks) (now nodes) m by × Fills (now ids) (λ j. nameAt Kind.Nodo (deliveryOf (filesOf (map now files)) Kind.Nodo) j 1) (deliveryOf (filesOf (map now files)) Kind.Nodo .count) m × Positions (now vx) (now vy) Kind.Vertice (deliveryOf (filesOf (map now files)) Kind.Vertice) n × Positions (now nx) (now ny) Kind.Nodo (deliveryOf (filesOf (map now files)) Kind.Nodo) m × Fills (now ends) (λ i. highestIn (listed (now keys)) (tramoLine (deliveryOf (filesOf (map now files)) Kind.Tramo) i) n) (deliveryOf (filesOf (map now files)) Kind.Tramo .count) t × Fills (now starts) (tramoStart (deliveryOf (filesOf (map now files)) Kind.Tramo)) (deliveryOf (filesOf (map now files)) Kind.Tramo .count) t × Fills (now lasts) (tramoEnd (deliveryOf (filesOf (map now files)) Kind.Tramo)) (deliveryOf (filesOf (map now files)) Kind.Tramo .count) t × (t ≤ length (now marks)) ⌝ }
+    requires { ⌜ Ready (now keys) (now order) (now vertices) n way × Fills (now keys) (keyOf Kind.Vertice (deliveryOf (filesOf (map now files)) Kind.Vertice)) (deliveryOf (filesOf (map now files)) Kind.Vertice .count) n × Ready (now ids) (now ranks) (now nodes) m by × Fills (now ids) (λ j. nameAt Kind.Nodo (deliveryOf (filesOf (map now files)) Kind.Nodo) j 1) (deliveryOf (filesOf (map now files)) Kind.Nodo .count) m × Positions (now vx) (now vy) Kind.Vertice (deliveryOf (filesOf (map now files)) Kind.Vertice) n × Positions (now nx) (now ny) Kind.Nodo (deliveryOf (filesOf (map now files)) Kind.Nodo) m × Fills (now ends) (λ i. highestIn (listed (now keys)) (tramoLine (deliveryOf (filesOf (map now files)) Kind.Tramo) i) n) (deliveryOf (filesOf (map now files)) Kind.Tramo .count) t × Fills (now starts) (tramoStart (deliveryOf (filesOf (map now files)) Kind.Tramo)) (deliveryOf (filesOf (map now files)) Kind.Tramo .count) t × Fills (now lasts) (tramoEnd (deliveryOf (filesOf (map now files)) Kind.Tramo)) (deliveryOf (filesOf (map now files)) Kind.Tramo .count) t × (t ≤ length (now marks)) × (m ≤ length (now named)) ⌝ }
     ensures { λ r. ⌜ r ≡ fiftyTally (deliveryOf (filesOf (map now (files .entry)))) Kind.Tramo ⌝ }
+    ensures held { λ _. ⌜ Used (now (ids .entry)) (now (ranks .entry)) (now (nodes .entry)) (by .hinted) m (now (named .entry)) (now (named .exit)) (isEnd (deliveryOf (filesOf (map now (files .entry))) Kind.Tramo)) ⌝ }
 {
     let vertice = file_of(files, Kind::Vertice);
     let nodo = file_of(files, Kind::Nodo);
@@ -125,6 +130,7 @@ fn tally_ends<'a, 'b>(
         m,
         nx,
         ny,
+        named,
         marks,
     );
     let started = with_marks(endless, marks, t, 62);
@@ -149,6 +155,7 @@ fn tally_ends<'a, 'b>(
         m,
         nx,
         ny,
+        named,
         marks,
     );
     with_marks(started, marks, t, 73)
@@ -177,10 +184,12 @@ fn tally_tramos<'a, 'b>(
     vx: &mut [u64],
     vy: &mut [u64],
     ends: &mut [u64],
+    named: &mut [u8],
     marks: &mut [u8],
 ) -> Tally
-    requires { ⌜ Ready (now keys) (now order) (now vertices) n way × Fills (now keys) (keyOf Kind.Vertice (deliveryOf (filesOf (map now files)) Kind.Vertice)) (deliveryOf (filesOf (map now files)) Kind.Vertice .count) n × Ready (now ids) (now ranks) (now nodes) m by × Fills (now ids) (λ j. nameAt Kind.Nodo (deliveryOf (filesOf (map now files)) Kind.Nodo) j 1) (deliveryOf (filesOf (map now files)) Kind.Nodo .count) m × Positions (now nx) (now ny) Kind.Nodo (deliveryOf (filesOf (map now files)) Kind.Nodo) m × ((k : Kind) → deliveryOf (filesOf (map now files)) k .count ≤ most) × (most ≤ length (now a)) × (most ≤ length (now «a_order»)) × (most ≤ length (now b)) × (most ≤ length (now vx)) × (most ≤ length (now vy)) × (most ≤ length (now ends)) × (most ≤ length (now marks)) ⌝ }
+    requires { ⌜ Ready (now keys) (now order) (now vertices) n way × Fills (now keys) (keyOf Kind.Vertice (deliveryOf (filesOf (map now files)) Kind.Vertice)) (deliveryOf (filesOf (map now files)) Kind.Vertice .count) n × Ready (now ids) (now ranks) (now nodes) m by × Fills (now ids) (λ j. nameAt Kind.Nodo (deliveryOf (filesOf (map now files)) Kind.Nodo) j 1) (deliveryOf (filesOf (map now files)) Kind.Nodo .count) m × Positions (now nx) (now ny) Kind.Nodo (deliveryOf (filesOf (map now files)) Kind.Nodo) m × ((k : Kind) → deliveryOf (filesOf (map now files)) k .count ≤ most) × (most ≤ length (now a)) × (most ≤ length (now «a_order»)) × (most ≤ length (now b)) × (most ≤ length (now vx)) × (most ≤ length (now vy)) × (most ≤ length (now ends)) × (most ≤ length (now marks)) × (m ≤ length (now named)) ⌝ }
     ensures { λ r. ⌜ r ≡ fiftyTally (deliveryOf (filesOf (map now (files .entry)))) Kind.Tramo ⌝ }
+    ensures held { λ _. ⌜ Used (now (ids .entry)) (now (ranks .entry)) (now (nodes .entry)) (by .hinted) m (now (named .entry)) (now (named .exit)) (isEnd (deliveryOf (filesOf (map now (files .entry))) Kind.Tramo)) ⌝ }
 {
     let tramo = file_of(files, Kind::Tramo);
     let t = prepare_ends(tramo, keys, n, a, a_hints, a_order, b, vx, ends);
@@ -207,6 +216,7 @@ fn tally_tramos<'a, 'b>(
         m,
         nx,
         ny,
+        named,
         marks,
     )
 }
@@ -239,11 +249,13 @@ fn tally_lines<'a, 'b>(
     c: &mut [u64],
     d: &mut [u64],
     e: &mut [u64],
+    named: &mut [u8],
     marks: &mut [u8],
 ) -> Lines
-    requires { ⌜ Ready (now ids) (now ranks) (now nodes) m by × Fills (now ids) (λ j. nameAt Kind.Nodo (deliveryOf (filesOf (map now files)) Kind.Nodo) j 1) (deliveryOf (filesOf (map now files)) Kind.Nodo .count) m × Positions (now nx) (now ny) Kind.Nodo (deliveryOf (filesOf (map now files)) Kind.Nodo) m × ((k : Kind) → deliveryOf (filesOf (map now files)) k .count ≤ most) × (most ≤ length (now keys)) × (most ≤ length (now «key_order»)) × (most ≤ length (now a)) × (most ≤ length (now «a_order»)) × (most ≤ length (now b)) × (most ≤ length (now c)) × (most ≤ length (now d)) × (most ≤ length (now e)) × (most ≤ length (now marks)) ⌝ }
+    requires { ⌜ Ready (now ids) (now ranks) (now nodes) m by × Fills (now ids) (λ j. nameAt Kind.Nodo (deliveryOf (filesOf (map now files)) Kind.Nodo) j 1) (deliveryOf (filesOf (map now files)) Kind.Nodo .count) m × Positions (now nx) (now ny) Kind.Nodo (deliveryOf (filesOf (map now files)) Kind.Nodo) m × ((k : Kind) → deliveryOf (filesOf (map now files)) k .count ≤ most) × (most ≤ length (now keys)) × (most ≤ length (now «key_order»)) × (most ≤ length (now a)) × (most ≤ length (now «a_order»)) × (most ≤ length (now b)) × (most ≤ length (now c)) × (most ≤ length (now d)) × (most ≤ length (now e)) × (most ≤ length (now marks)) × (m ≤ length (now named)) ⌝ }
     ensures { λ r. ⌜ r .tramos ≡ fiftyTally (deliveryOf (filesOf (map now (files .entry)))) Kind.Tramo ⌝ }
     ensures others { λ r. ⌜ r .vertices ≡ fiftyTally (deliveryOf (filesOf (map now (files .entry)))) Kind.Vertice ⌝ }
+    ensures held { λ _. ⌜ Used (now (ids .entry)) (now (ranks .entry)) (now (nodes .entry)) (by .hinted) m (now (named .entry)) (now (named .exit)) (isEnd (deliveryOf (filesOf (map now (files .entry))) Kind.Tramo)) ⌝ }
 {
     let n = fill_keys(file_of(files, Kind::Vertice), Kind::Vertice, keys);
     let way = prepare(keys, n, key_hints, key_order);
@@ -269,6 +281,7 @@ fn tally_lines<'a, 'b>(
         c,
         d,
         e,
+        named,
         marks,
     );
     let vertices = tally_vertices(files, keys, key_order, key_hints, way, n, marks);
@@ -289,10 +302,12 @@ fn tally_points<'a, 'b>(
     wanted: &mut [u64],
     xs: &mut [u64],
     ys: &mut [u64],
+    named: &mut [u8],
     marks: &mut [u8],
 ) -> Tally
-    requires { ⌜ Ready (now ids) (now ranks) (now nodes) m by × Fills (now ids) (λ j. nameAt Kind.Nodo (deliveryOf (filesOf (map now files)) Kind.Nodo) j 1) (deliveryOf (filesOf (map now files)) Kind.Nodo .count) m × Positions (now nx) (now ny) Kind.Nodo (deliveryOf (filesOf (map now files)) Kind.Nodo) m × (deliveryOf (filesOf (map now files)) Kind.ObPun .count ≤ most) × (most ≤ length (now wanted)) × (most ≤ length (now xs)) × (most ≤ length (now ys)) × (most ≤ length (now marks)) ⌝ }
+    requires { ⌜ Ready (now ids) (now ranks) (now nodes) m by × Fills (now ids) (λ j. nameAt Kind.Nodo (deliveryOf (filesOf (map now files)) Kind.Nodo) j 1) (deliveryOf (filesOf (map now files)) Kind.Nodo .count) m × Positions (now nx) (now ny) Kind.Nodo (deliveryOf (filesOf (map now files)) Kind.Nodo) m × (deliveryOf (filesOf (map now files)) Kind.ObPun .count ≤ most) × (most ≤ length (now wanted)) × (most ≤ length (now xs)) × (most ≤ length (now ys)) × (most ≤ length (now marks)) × (m ≤ length (now named)) ⌝ }
     ensures { λ r. ⌜ r ≡ fiftyTally (deliveryOf (filesOf (map now (files .entry)))) Kind.ObPun ⌝ }
+    ensures held { λ _. ⌜ Used (now (ids .entry)) (now (ranks .entry)) (now (nodes .entry)) (by .hinted) m (now (named .entry)) (now (named .exit)) (names (λ j. nameAt Kind.ObPun (deliveryOf (filesOf (map now (files .entry))) Kind.ObPun) j 3) (deliveryOf (filesOf (map now (files .entry))) Kind.ObPun .count)) ⌝ }
 {
     let ob_pun = file_of(files, Kind::ObPun);
     let nodo = file_of(files, Kind::Nodo);
@@ -311,6 +326,7 @@ fn tally_points<'a, 'b>(
         m,
         nx,
         ny,
+        named,
         marks,
     );
     with_marks(no_tally(), marks, n, 35)
@@ -337,7 +353,7 @@ fn tally_objects<'a>(
     with_marks(no_tally(), marks, n, 7)
 }
 
-// 54 and 56, of the nodes, with their ids in hand and room for places.
+// 54 and 56, of the nodes, with their ids and which of them are named in hand and room for places.
 fn tally_nodes<'a, 'b>(
     files: [&'a [u8]; FILES],
     ids: &'b [u64],
@@ -348,7 +364,7 @@ fn tally_nodes<'a, 'b>(
     nx: &'b [u64],
     ny: &'b [u64],
     most: usize,
-    used: &mut [u8],
+    used: &'b [u8],
     xs: &mut [u64],
     ys: &mut [u64],
     hints: &mut [u16],
@@ -360,7 +376,7 @@ fn tally_nodes<'a, 'b>(
     pair_order: &mut [usize],
     marks: &mut [u8],
 ) -> Tally
-    requires { ⌜ Ready (now ids) (now ranks) (now nodes) m by × Fills (now ids) (λ j. nameAt Kind.Nodo (deliveryOf (filesOf (map now files)) Kind.Nodo) j 1) (deliveryOf (filesOf (map now files)) Kind.Nodo .count) m × ((k : Kind) → deliveryOf (filesOf (map now files)) k .count ≤ most) × (most ≤ length (now used)) × (most ≤ length (now xs)) × (most ≤ length (now ys)) × (most ≤ length (now order)) × (most ≤ length (now zs)) × (most ≤ length (now spots)) × (most ≤ length (now pairs)) × (most ≤ length (now «pair_order»)) × (most ≤ length (now marks)) × Positions (now nx) (now ny) Kind.Nodo (deliveryOf (filesOf (map now files)) Kind.Nodo) m ⌝ }
+    requires { ⌜ Ready (now ids) (now ranks) (now nodes) m by × Fills (now ids) (λ j. nameAt Kind.Nodo (deliveryOf (filesOf (map now files)) Kind.Nodo) j 1) (deliveryOf (filesOf (map now files)) Kind.Nodo .count) m × ((k : Kind) → deliveryOf (filesOf (map now files)) k .count ≤ most) × Named (now ids) (now ranks) (now nodes) (by .hinted) m (now used) (isNamed (deliveryOf (filesOf (map now files)) Kind.ObPun) (deliveryOf (filesOf (map now files)) Kind.Tramo)) × (most ≤ length (now xs)) × (most ≤ length (now ys)) × (most ≤ length (now order)) × (most ≤ length (now zs)) × (most ≤ length (now spots)) × (most ≤ length (now pairs)) × (most ≤ length (now «pair_order»)) × (most ≤ length (now marks)) × Positions (now nx) (now ny) Kind.Nodo (deliveryOf (filesOf (map now files)) Kind.Nodo) m ⌝ }
     ensures { λ r. ⌜ r ≡ fiftyTally (deliveryOf (filesOf (map now (files .entry)))) Kind.Nodo ⌝ }
 {
     let ob_pun = file_of(files, Kind::ObPun);
@@ -416,10 +432,11 @@ fn tally_in_hand<'a, 'b>(
     pairs: &mut [u64],
     pair_hints: &mut [u16],
     pair_order: &mut [usize],
+    named: &mut [u8],
     used: &mut [u8],
     marks: &mut [u8],
 ) -> [Tally; FILES]
-    requires { ⌜ (tramos ≡ fiftyTally (deliveryOf (filesOf (map now files))) Kind.Tramo) × (vertices ≡ fiftyTally (deliveryOf (filesOf (map now files))) Kind.Vertice) × Ready (now ids) (now ranks) (now nodes) m by × Fills (now ids) (λ j. nameAt Kind.Nodo (deliveryOf (filesOf (map now files)) Kind.Nodo) j 1) (deliveryOf (filesOf (map now files)) Kind.Nodo .count) m × Positions (now nx) (now ny) Kind.Nodo (deliveryOf (filesOf (map now files)) Kind.Nodo) m × ((k : Kind) → deliveryOf (filesOf (map now files)) k .count ≤ most) × (most ≤ length (now a)) × (most ≤ length (now b)) × (most ≤ length (now c)) × (most ≤ length (now d)) × (most ≤ length (now «a_order»)) × (most ≤ length (now pairs)) × (most ≤ length (now «pair_order»)) × (most ≤ length (now used)) × (most ≤ length (now marks)) ⌝ }
+    requires { ⌜ (tramos ≡ fiftyTally (deliveryOf (filesOf (map now files))) Kind.Tramo) × (vertices ≡ fiftyTally (deliveryOf (filesOf (map now files))) Kind.Vertice) × Ready (now ids) (now ranks) (now nodes) m by × Fills (now ids) (λ j. nameAt Kind.Nodo (deliveryOf (filesOf (map now files)) Kind.Nodo) j 1) (deliveryOf (filesOf (map now files)) Kind.Nodo .count) m × Positions (now nx) (now ny) Kind.Nodo (deliveryOf (filesOf (map now files)) Kind.Nodo) m × ((k : Kind) → deliveryOf (filesOf (map now files)) k .count ≤ most) × (most ≤ length (now a)) × (most ≤ length (now b)) × (most ≤ length (now c)) × (most ≤ length (now d)) × (most ≤ length (now «a_order»)) × (most ≤ length (now pairs)) × (most ≤ length (now «pair_order»)) × (most ≤ length (now used)) × (most ≤ length (now marks)) × Named (now ids) (now ranks) (now nodes) (by .hinted) m (now named) (isEnd (deliveryOf (filesOf (map now files)) Kind.Tramo)) ⌝ }
     ensures { λ r. ⌜ r ≡ fiftyTallies (deliveryOf (filesOf (map now (files .entry)))) ⌝ }
 {
     let points = tally_points(
@@ -435,6 +452,7 @@ fn tally_in_hand<'a, 'b>(
         a,
         b,
         c,
+        named,
         marks,
     );
     let objects = tally_objects(files, a, a_hints, a_order, b, used, marks);
@@ -448,7 +466,7 @@ fn tally_in_hand<'a, 'b>(
         nx,
         ny,
         most,
-        used,
+        named,
         a,
         b,
         a_hints,
@@ -490,16 +508,18 @@ fn tally_files<'a>(
     e: &mut [u64],
     a_hints: &mut [u16],
     a_order: &mut [usize],
+    named: &mut [u8],
     used: &mut [u8],
     marks: &mut [u8],
 ) -> [Tally; FILES]
-    requires { ⌜ ((k : Kind) → deliveryOf (filesOf (map now files)) k .count ≤ most) × (most ≤ length (now keys)) × (most ≤ length (now «key_order»)) × (most ≤ length (now ids)) × (most ≤ length (now «id_order»)) × (most ≤ length (now nx)) × (most ≤ length (now ny)) × (most ≤ length (now a)) × (most ≤ length (now b)) × (most ≤ length (now c)) × (most ≤ length (now d)) × (most ≤ length (now e)) × (most ≤ length (now «a_order»)) × (most ≤ length (now used)) × (most ≤ length (now marks)) ⌝ }
+    requires { ⌜ ((k : Kind) → deliveryOf (filesOf (map now files)) k .count ≤ most) × (most ≤ length (now keys)) × (most ≤ length (now «key_order»)) × (most ≤ length (now ids)) × (most ≤ length (now «id_order»)) × (most ≤ length (now nx)) × (most ≤ length (now ny)) × (most ≤ length (now a)) × (most ≤ length (now b)) × (most ≤ length (now c)) × (most ≤ length (now d)) × (most ≤ length (now e)) × (most ≤ length (now «a_order»)) × (most ≤ length (now used)) × (most ≤ length (now marks)) × (most ≤ length (now named)) ⌝ }
     ensures { λ r. ⌜ r ≡ fiftyTallies (deliveryOf (filesOf (map now (files .entry)))) ⌝ }
 {
     let nodo = file_of(files, Kind::Nodo);
     let m = fill_names(nodo, Kind::Nodo, 1, ids);
     let by = prepare(ids, m, id_hints, id_order);
     fill_positions(nodo, Kind::Nodo, most, nx, ny);
+    clear(named, m);
     let lines = tally_lines(
         files,
         ids,
@@ -520,6 +540,7 @@ fn tally_files<'a>(
         c,
         d,
         e,
+        named,
         marks,
     );
     let tramos = lines.tramos;
@@ -545,6 +566,7 @@ fn tally_files<'a>(
         keys,
         key_hints,
         key_order,
+        named,
         used,
         marks,
     )
@@ -570,6 +592,7 @@ fn tally_few<'a>(files: [&'a [u8]; FILES]) -> [Tally; FILES]
     let mut e = [0u64; FEW];
     let mut a_hints = [0u16; FEW_HINTS];
     let mut a_order = [0usize; FEW];
+    let mut named = [0u8; FEW];
     let mut used = [0u8; FEW];
     let mut marks = [0u8; FEW];
     tally_files(
@@ -590,6 +613,7 @@ fn tally_few<'a>(files: [&'a [u8]; FILES]) -> [Tally; FILES]
         &mut e,
         &mut a_hints,
         &mut a_order,
+        &mut named,
         &mut used,
         &mut marks,
     )
@@ -614,6 +638,7 @@ fn tally_many<'a>(files: [&'a [u8]; FILES]) -> [Tally; FILES]
     let mut e = [0u64; LIMIT];
     let mut a_hints = [0u16; HINTS];
     let mut a_order = [0usize; LIMIT];
+    let mut named = [0u8; LIMIT];
     let mut used = [0u8; LIMIT];
     let mut marks = [0u8; LIMIT];
     tally_files(
@@ -634,6 +659,7 @@ fn tally_many<'a>(files: [&'a [u8]; FILES]) -> [Tally; FILES]
         &mut e,
         &mut a_hints,
         &mut a_order,
+        &mut named,
         &mut used,
         &mut marks,
     )

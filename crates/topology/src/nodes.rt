@@ -33,7 +33,7 @@ ghost use Rattle.record.specs.Says.{tableOf};
 ghost use Rattle.record.specs.Names.{nameAt};
 ghost use Rattle.topology.specs.Rules.{xAt, yAt, placed, samePlace, nodeUsed, objectIdle};
 ghost use Rattle.topology.specs.machinery.Places.{spotOf};
-ghost use Rattle.topology.specs.machinery.Used.{isNamed};
+ghost use Rattle.topology.specs.machinery.Used.{Named, isNamed};
 
 // Whether node j has the X, Y and Z of node i.
 fn same_place(nodo: &[u8], i: usize, j: usize) -> bool
@@ -83,41 +83,6 @@ pub(crate) fn mark_idle_objects<'a, 'b>(
 {
     clear(used, n);
     mark_used(tramo, Kind::Tramo, 2, ids, order, hints, way, n, refs, used);
-    mark_unheld(ids, order, hints, way, n, used, marks);
-}
-
-// Marks the nodes that start or end no tramo and are named by no point object, by their ids.
-fn mark_unnamed<'a, 'b>(
-    ob_pun: &'a [u8],
-    tramo: &'a [u8],
-    ids: &'b [u64],
-    order: &'b [usize],
-    hints: &'b [u16],
-    way: Way,
-    n: usize,
-    most: usize,
-    refs: &mut [u64],
-    used: &mut [u8],
-    marks: &mut [u8],
-)
-    requires { ⌜ Ready (now ids) (now order) (now hints) n way × (n ≤ length (now used)) × (n ≤ length (now marks)) × (tableOf (now «ob_pun») Kind.ObPun .count ≤ most) × (tableOf (now tramo) Kind.Tramo .count ≤ most) × (most ≤ length (now refs)) ⌝ }
-    ensures { λ _. ⌜ Marked (now (marks .entry)) (now (marks .exit)) (λ i. not (isNamed (tableOf (now («ob_pun» .entry)) Kind.ObPun) (tableOf (now (tramo .entry)) Kind.Tramo) (getD (now (ids .entry)) i 0))) n ⌝ }
-{
-    clear(used, n);
-    mark_used(tramo, Kind::Tramo, 6, ids, order, hints, way, n, refs, used);
-    mark_used(tramo, Kind::Tramo, 7, ids, order, hints, way, n, refs, used);
-    mark_used(
-        ob_pun,
-        Kind::ObPun,
-        3,
-        ids,
-        order,
-        hints,
-        way,
-        n,
-        refs,
-        used,
-    );
     mark_unheld(ids, order, hints, way, n, used, marks);
 }
 
@@ -240,8 +205,9 @@ fn unmark_places<'a, 'b>(
     );
 }
 
-// 56: marks the nodes that start or end no tramo, have the X and Y of no vertex, and are named by no point object, with their ids in hand
-// and room lent. Vertices are read only where a node is named by nothing.
+// 56: marks the nodes that start or end no tramo, have the X and Y of no vertex, and are named by no point object, with their ids and which
+// are named in hand and room lent. Vertices are read only where a node is named by nothing; tramos and point objects are there for the
+// contract alone.
 pub(crate) fn mark_idle_nodes<'a, 'b>(
     ob_pun: &'a [u8],
     tramo: &'a [u8],
@@ -253,7 +219,7 @@ pub(crate) fn mark_idle_nodes<'a, 'b>(
     way: Way,
     n: usize,
     most: usize,
-    used: &mut [u8],
+    used: &'b [u8],
     xs: &mut [u64],
     ys: &mut [u64],
     x_hints: &mut [u16],
@@ -263,22 +229,10 @@ pub(crate) fn mark_idle_nodes<'a, 'b>(
     pair_order: &mut [usize],
     marks: &mut [u8],
 )
-    requires { ⌜ Ready (now ids) (now order) (now hints) n way × Fills (now ids) (λ j. nameAt Kind.Nodo (tableOf (now nodo) Kind.Nodo) j 1) (tableOf (now nodo) Kind.Nodo .count) n × (n ≤ length (now used)) × (n ≤ length (now marks)) × (tableOf (now «ob_pun») Kind.ObPun .count ≤ most) × (tableOf (now tramo) Kind.Tramo .count ≤ most) × (tableOf (now vertice) Kind.Vertice .count ≤ most) × (most ≤ length (now xs)) × (most ≤ length (now ys)) × (most ≤ length (now «x_order»)) × (most ≤ length (now pairs)) × (most ≤ length (now «pair_order»)) ⌝ }
+    requires { ⌜ Ready (now ids) (now order) (now hints) n way × Fills (now ids) (λ j. nameAt Kind.Nodo (tableOf (now nodo) Kind.Nodo) j 1) (tableOf (now nodo) Kind.Nodo .count) n × Named (now ids) (now order) (now hints) (way .hinted) n (now used) (isNamed (tableOf (now «ob_pun») Kind.ObPun) (tableOf (now tramo) Kind.Tramo)) × (n ≤ length (now marks)) × (tableOf (now vertice) Kind.Vertice .count ≤ most) × (most ≤ length (now xs)) × (most ≤ length (now ys)) × (most ≤ length (now «x_order»)) × (most ≤ length (now pairs)) × (most ≤ length (now «pair_order»)) ⌝ }
     ensures { λ _. ⌜ Marked (now (marks .entry)) (now (marks .exit)) (λ i. not (nodeUsed (tableOf (now («ob_pun» .entry)) Kind.ObPun) (tableOf (now (tramo .entry)) Kind.Tramo) (tableOf (now (vertice .entry)) Kind.Vertice) (tableOf (now (nodo .entry)) Kind.Nodo) i)) (tableOf (now (nodo .entry)) Kind.Nodo .count) ⌝ }
 {
-    mark_unnamed(
-        ob_pun,
-        tramo,
-        ids,
-        order,
-        hints,
-        way,
-        n,
-        most,
-        xs,
-        used,
-        marks,
-    );
+    mark_unheld(ids, order, hints, way, n, used, marks);
     let first = first_marked(marks, n);
     let Found::At(_) = first else {
         return;

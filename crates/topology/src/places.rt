@@ -1,7 +1,6 @@
 // Places in X and Y, and look-ups of them.
 use index::Found;
 use index::way::Way;
-use index::way::look;
 use record::columns::place;
 use record::columns::rows;
 use record::kind::Kind;
@@ -12,6 +11,7 @@ ghost use mathlib.Core.Bool.{_&&_};
 ghost use Prim.Native.Nat.{ℕ, _+_, _*_, _%_, _≤_, _<_, _^_};
 ghost use lib.Dec.{eqb};
 ghost use lib.ListN.{length, getD};
+ghost use Rattle.index.specs.Look.{Sought};
 ghost use Rattle.index.specs.Way.{Ready};
 ghost use Rattle.record.specs.Table.{limit};
 ghost use Rattle.record.specs.Says.{tableOf};
@@ -63,8 +63,8 @@ pub(crate) fn scan_node(nodo: &[u8], wanted: u64, x: u64, y: u64) -> bool
     false
 }
 
-// Whether a node with the name is at X and Y, with X and Y of the nodes in hand. The node that is found by its id decides where it is there,
-// and where ids are known to differ, since then no other has the name.
+// Whether a node with the name is at X and Y, with X and Y of the nodes in hand and what a look-up of the name found. The node that was found
+// decides where it is there, and where ids are known to differ, since then no other has the name.
 pub(crate) fn node_at<'a, 'b>(
     nodo: &'a [u8],
     ids: &'b [u64],
@@ -75,13 +75,13 @@ pub(crate) fn node_at<'a, 'b>(
     xs: &'b [u64],
     ys: &'b [u64],
     wanted: u64,
+    found: Found,
     x: u64,
     y: u64,
 ) -> bool
-    requires { ⌜ Ready (now ids) (now order) (now hints) n way × Fills (now ids) (λ j. nameAt Kind.Nodo (tableOf (now nodo) Kind.Nodo) j 1) (tableOf (now nodo) Kind.Nodo .count) n × Positions (now xs) (now ys) Kind.Nodo (tableOf (now nodo) Kind.Nodo) n ⌝ }
+    requires { ⌜ Ready (now ids) (now order) (now hints) n way × Fills (now ids) (λ j. nameAt Kind.Nodo (tableOf (now nodo) Kind.Nodo) j 1) (tableOf (now nodo) Kind.Nodo .count) n × Positions (now xs) (now ys) Kind.Nodo (tableOf (now nodo) Kind.Nodo) n × Sought (now ids) n wanted found ⌝ }
     ensures { λ r. ⌜ r ≡ nodeIn (tableOf (now (nodo .entry)) Kind.Nodo) wanted x y ⌝ }
 {
-    let found = look(ids, order, hints, way, n, wanted);
     match found {
         Found::Nothing => false,
         Found::At(j) => {

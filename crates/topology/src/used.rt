@@ -20,7 +20,7 @@ ghost use Rattle.record.specs.Names.{nameAt};
 ghost use Rattle.topology.specs.machinery.Used.{putAt, freeAt, Used, Unheld};
 
 // The record that was found is in use.
-fn put(found: Found, used: &mut [u8])
+pub(crate) fn put(found: Found, used: &mut [u8])
     requires { ⌜ foundBelow found (length (now used)) ⌝ }
     ensures { λ _. ⌜ now (used .exit) ≡ putAt (now (used .entry)) found ⌝ }
 {

@@ -1,6 +1,6 @@
 -- Machinery: which records are named, by a table of their ids. No promise cites this file.
 -- Assumes nothing.
-use Prim.Native.Nat.{ℕ, _<_}
+use Prim.Native.Nat.{ℕ, _<_, _≤_}
 use mathlib.Core.Bool.{Bool, true, not, _&&_, _||_}
 use mathlib.Core.List.{List}
 use mathlib.Core.Path.{_≡_}
@@ -33,6 +33,11 @@ pub record Used (ids order hints : List ℕ) (hinted : Bool) (n : ℕ) (before a
   pub marked :
       (x r : ℕ) → lookOf ids order hints hinted n x ≡ At r → eqb (getD after r 0) 0 ≡ (eqb (getD before r 0) 0 && not (test x))
 
+-- the same since none was: the record that a look-up of x finds is 0 exactly where the test does not hold of x
+pub record Named (ids order hints : List ℕ) (hinted : Bool) (n : ℕ) (used : List ℕ) (test : ℕ → Bool) : Type 0 where
+  pub room : n ≤ length used
+  pub marked : (x r : ℕ) → r < n → lookOf ids order hints hinted n x ≡ At r → eqb (getD used r 0) 0 ≡ not (test x)
+
 -- the mark of a record says that the one which a look-up of its id x finds is not in use
 pub record Free (ids order hints : List ℕ) (hinted : Bool) (n : ℕ) (used : List ℕ) (x mark : ℕ) : Type 0 where
   pub at : ℕ
@@ -45,7 +50,11 @@ pub record Unheld (ids order hints : List ℕ) (hinted : Bool) (n : ℕ) (used b
   pub long : length after ≡ length before
   pub each : (i : ℕ) → i < m → Free ids order hints hinted n used (getD ids i 0) (getD after i 0)
 
--- a node with the id starts or ends a tramo or is named by a point object
+-- a node with the id starts or ends a tramo
+unfoldable pub isEnd : Table → ℕ → Bool
+isEnd tramos x = names (tramoStart tramos) (tramos .count) x || names (tramoEnd tramos) (tramos .count) x
+
+-- or is named by a point object
 unfoldable pub isNamed : Table → Table → ℕ → Bool
 isNamed points tramos x =
     names (tramoStart tramos) (tramos .count) x

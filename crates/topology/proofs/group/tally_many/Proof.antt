@@ -57,12 +57,15 @@ slice-aggregate-tally-files-16 c = search needs
 slice-aggregate-tally-files-17 : tie.Need-slice-aggregate-tally-files-17
 slice-aggregate-tally-files-17 c = search needs
 
+slice-aggregate-tally-files-18 : tie.Need-slice-aggregate-tally-files-18
+slice-aggregate-tally-files-18 c = search needs
+
 tally-files-requires : tie.Need-tally-files-requires
 tally-files-requires c κs =
-    (λ k. min-le-left _ _, omega arith, omega arith, omega arith, omega arith, omega arith, omega arith, omega arith, omega arith, omega arith, omega arith, omega arith, omega arith, omega arith, omega arith)
+    (λ k. min-le-left _ _, omega arith, omega arith, omega arith, omega arith, omega arith, omega arith, omega arith, omega arith, omega arith, omega arith, omega arith, omega arith, omega arith, omega arith, omega arith)
 
 returns : tie.Need-returns
-returns c = c .before .before .before .before .before .before .before .before .before .before .before .before .before .before .before .before .before .tally-files .ensures
+returns c = c .before .before .before .before .before .before .before .before .before .before .before .before .before .before .before .before .before .before .tally-files .ensures
 
 pub tally-many-spec : {M : Type 1} → statement M
 tally-many-spec =
@@ -85,5 +88,6 @@ tally-many-spec =
     slice-aggregate-tally-files-15
     slice-aggregate-tally-files-16
     slice-aggregate-tally-files-17
+    slice-aggregate-tally-files-18
     tally-files-requires
     returns)
