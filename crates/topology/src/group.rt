@@ -25,7 +25,6 @@ use index::way::Way;
 use index::way::prepare;
 use keys::group::tally_of;
 use record::check::break_of;
-use record::columns::rows;
 use record::files::all_few;
 use record::files::file_of;
 use record::fill::fill_keys;

@@ -1,21 +1,13 @@
 // Vertex numbering: reasons 50 and 51. Only the order number counts, never the place in the file.
-use index::HINTS;
 use index::marks::as_mark;
 use index::way::Way;
 use index::way::is_there;
-use index::way::prepare;
-use record::fill::fill_keys;
-use record::kind::Kind;
-use record::kind::LIMIT;
 ghost use mathlib.Core.Path.{_≡_};
 ghost use Prim.Native.Nat.{ℕ, _≤_, _<_, _^_};
-ghost use lib.ListN.{length, getD};
+ghost use lib.ListN.{length};
 ghost use Rattle.index.specs.Keys.{listed};
 ghost use Rattle.index.specs.Marks.{Marked};
 ghost use Rattle.index.specs.Way.{Ready};
-ghost use Rattle.record.specs.Table.{limit};
-ghost use Rattle.record.specs.Says.{tableOf};
-ghost use Rattle.record.specs.Names.{keyOf};
 ghost use Rattle.topology.specs.Rules.{gap, unpaired};
 
 // 50, of a vertex.

@@ -1,7 +1,6 @@
 // Places as numbers, and 54 by them: nodes at one place. X and Y of each record are one number, and with Z another, so that two are equal
 // exactly where the places are.
 use crate::nodes::spot;
-use index::HINTS;
 use index::marks::clear;
 use index::numbers::mark_repeats;
 use index::pairs::fill_pairs;
@@ -9,7 +8,6 @@ use index::way::Way;
 use index::way::prepare;
 use record::fill::fill_places;
 use record::kind::Kind;
-use record::kind::LIMIT;
 ghost use Prim.Native.Nat.{_≤_};
 ghost use lib.ListN.{length, getD};
 ghost use Rattle.laws.specs.Find.{any};
