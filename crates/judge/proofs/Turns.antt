@@ -2,28 +2,18 @@
 -- Assumes nothing.
 use Prim.Native.Nat.{ℕ, zero, suc, _<_, _≤_}
 use mathlib.Core.Path.{_≡_, sym, ap, _∙_}
-use mathlib.Core.Logic.{⊎-elim}
-use native.Mathlib.Nat.{le-antisymm, le-of-suc-le-suc, not-suc-le-zero, eq-or-lt-of-le, le-trans, le-max-left, le-max-right, max-le}
+use native.Mathlib.Nat.{le-antisymm, max-le}
 use native.Mathlib.Omega.{arith}
 use lib.Dec.{eqb}
-use borrow.Author.Tests.{eqb-true, eqb-false}
+use borrow.Author.Tests.{eqb-true}
 use Rattle.laws.proofs.RowLaws.{picked}
 use Rattle.laws.proofs.Turns.{Turn}
 use Rattle.index.specs.Look.{keyLine}
 use Rattle.topology.specs.Rules.{highestIn}
+use Rattle.topology.proofs.EndLaws.{highest-above}
 
 module _ (key : ℕ → ℕ) (line : ℕ) where
-  -- the line's keys are at most the highest,
-  highest-above : (n : ℕ) {j : ℕ} → j < n → keyLine (key j) ≡ line → key j ≤ highestIn key line n
-  unfolding highestIn
-  highest-above zero l e = absurd (not-suc-le-zero l)
-  highest-above (suc n) {j} l e =
-      ⊎-elim
-      (λ q. rw q (picked (λ m. key n ≤ m) (eqb (keyLine (key n)) line) _ _ (λ _. le-max-left (key n) _) (λ f. absurd (eqb-false _ _ f (rw q at e)))))
-      (λ h. picked (λ m. key j ≤ m) (eqb (keyLine (key n)) line) _ _ (λ _. le-trans (highest-above n h e) (le-max-right (key n) _)) (λ _. highest-above n h e))
-      (eq-or-lt-of-le (le-of-suc-le-suc l))
-
-  -- and this is at most what they are at most
+  -- the highest of a line's keys is at most what they are at most
   highest-below : (n b : ℕ) → ((j : ℕ) → j < n → keyLine (key j) ≡ line → key j ≤ b) → highestIn key line n ≤ b
   unfolding highestIn
   highest-below zero b h = omega arith

@@ -47,7 +47,7 @@ module _ {l : List ℕ} {key : ℕ → ℕ} {m n : ℕ} (lent : Fills l key m n)
 
 -- THE HIGHEST KEY of a line: no key of the line is over it, and it is of the line where it isn't 0
 module _ (key : ℕ → ℕ) (line : ℕ) where
-  highest-above : (n : ℕ) {j : ℕ} → j < n → keyLine (key j) ≡ line → key j ≤ highestIn key line n
+  pub highest-above : (n : ℕ) {j : ℕ} → j < n → keyLine (key j) ≡ line → key j ≤ highestIn key line n
   unfolding highestIn
   highest-above zero l e = absurd (not-suc-le-zero l)
   highest-above (suc n) {j} l e =
