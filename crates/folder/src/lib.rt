@@ -3,6 +3,12 @@
 use judge::line::BIG;
 use record::cut::part;
 use record::kind::FILES;
+ghost use mathlib.Core.Path.{_≡_};
+ghost use mathlib.Core.List.{map};
+ghost use mathlib.Core.Logic.{_⊎_};
+ghost use Prim.Native.Nat.{_≤_};
+ghost use lib.ListN.{length};
+ghost use Rattle.folder.specs.Folder.{failed, Lengths, anyFailed, filesRead};
 
 // One byte more than a program takes of a file is room enough: what is printed of a file that fills it is BIG, whatever follows.
 pub const ROOM: usize = BIG + 1;
@@ -14,7 +20,9 @@ pub const ALL: usize = ROOM * FILES;
 const FAILED: usize = ROOM + 1;
 
 // Reads to the end of the file, or until the room is full, and answers how many bytes it read.
-fn load_from(fd: i32, name: &[u8], buf: &mut [u8]) -> usize {
+fn load_from(fd: i32, name: &[u8], buf: &mut [u8]) -> usize
+    ensures { λ r. ⌜ (r ≤ length (now (buf .entry))) ⊎ (r ≡ failed) ⌝ }
+{
     let mut done = 0;
     while done < buf.len() {
         let got = libc::read(fd, &mut buf[done..]);
@@ -31,7 +39,9 @@ fn load_from(fd: i32, name: &[u8], buf: &mut [u8]) -> usize {
     done
 }
 
-fn load(name: &[u8], buf: &mut [u8]) -> usize {
+fn load(name: &[u8], buf: &mut [u8]) -> usize
+    ensures { λ r. ⌜ (r ≤ length (now (buf .entry))) ⊎ (r ≡ failed) ⌝ }
+{
     let fd = os::open_read(name);
     if fd < 0 {
         if os::errno() == libc::ENOENT {
@@ -46,7 +56,9 @@ fn load(name: &[u8], buf: &mut [u8]) -> usize {
 }
 
 // Reads a file into its part of the room, and answers its length; a room that is too short is none.
-fn load_part(name: &[u8], room: &mut [u8], i: usize) -> usize {
+fn load_part(name: &[u8], room: &mut [u8], i: usize) -> usize
+    ensures { λ r. ⌜ r ≤ failed ⌝ }
+{
     if FILES <= i {
         return FAILED;
     }
@@ -59,7 +71,9 @@ fn load_part(name: &[u8], room: &mut [u8], i: usize) -> usize {
 }
 
 // The length of each file, in the order of their numbers, each read into its part of the room.
-pub fn load_files(room: &mut [u8]) -> [usize; FILES] {
+pub fn load_files(room: &mut [u8]) -> [usize; FILES]
+    ensures { λ r. ⌜ Lengths r ⌝ }
+{
     [
         load_part(b"CATALOGO", room, 0),
         load_part(b"OB_PUN", room, 1),
@@ -72,7 +86,9 @@ pub fn load_files(room: &mut [u8]) -> [usize; FILES] {
 }
 
 // Whether a file was not read.
-pub fn any_failed(lens: [usize; FILES]) -> bool {
+pub fn any_failed(lens: [usize; FILES]) -> bool
+    ensures { λ r. ⌜ r ≡ anyFailed lens ⌝ }
+{
     let mut i = 0;
     while i < FILES {
         if lens[i] == FAILED {
@@ -84,7 +100,9 @@ pub fn any_failed(lens: [usize; FILES]) -> bool {
 }
 
 // The files that were read into the room.
-pub fn files_in<'a>(room: &'a [u8], lens: [usize; FILES]) -> [&'a [u8]; FILES] {
+pub fn files_in<'a>(room: &'a [u8], lens: [usize; FILES]) -> [&'a [u8]; FILES]
+    ensures { λ r. ⌜ map now r ≡ filesRead (now (room .entry)) lens ⌝ }
+{
     [
         part(room, 0, lens[0]),
         part(room, ROOM, lens[1]),

@@ -1,7 +1,9 @@
--- `folder::load_from` is safe and ends: each turn reads on.
+-- `folder::load_from` meets its contract, and ends: each turn reads on.
 -- Assumes nothing.
 use Prim.Native.Nat.{_-_, _≤_}
-use mathlib.Core.Path.{_≡_}
+use mathlib.Core.Path.{_≡_, refl}
+use mathlib.Core.Logic.{inl, inr}
+use native.Mathlib.Omega.{arith}
 use lib.ListN.{length}
 use borrow.Author.Needs.{needs}
 use Rattle.folder.proofs.load_from.Statement.{statement}
@@ -35,7 +37,7 @@ same-length : tie.Need-same-length Inv-loop μ-loop
 same-length c = search needs
 
 returns : tie.Need-returns Inv-loop μ-loop
-returns c = search needs
+returns c = inr refl
 
 sub-count : tie.Need-sub-count Inv-loop μ-loop
 sub-count c = search needs
@@ -53,7 +55,7 @@ same-length-2 : tie.Need-same-length-2 Inv-loop μ-loop
 same-length-2 c = search needs
 
 returns-2 : tie.Need-returns-2 Inv-loop μ-loop
-returns-2 c = search needs
+returns-2 c = inl (let l = c .before .before .before .before .before .before .before .before .before .before .loop in omega (arith, l .inv .0, l .inv .1))
 
 add-done : tie.Need-add-done Inv-loop μ-loop
 add-done c = search needs
@@ -68,7 +70,7 @@ same-length-3 : tie.Need-same-length-3 Inv-loop μ-loop
 same-length-3 c = search needs
 
 returns-3 : tie.Need-returns-3 Inv-loop μ-loop
-returns-3 c = search needs
+returns-3 c = inl (let l = c .before .loop in omega (arith, l .inv .0, l .inv .1))
 
 pub load-from-spec : {M : Type 1} → statement M
 load-from-spec =
