@@ -9,7 +9,7 @@ use mathlib.Core.Path.{_≡_, refl, sym, ap, subst, _∙_}
 use mathlib.Core.Logic.{_⊎_, ⊎-elim}
 use native.Mathlib.Omega.{arith}
 use lib.Dec.{eqb}
-use lib.ListN.{length, length-map, replicate}
+use lib.ListN.{length, length-map, replicate, getD, drop}
 use borrow.Author.Tests.{eqb-true, eq-eqb, ne-eqb}
 use Rattle.laws.specs.Count.{total}
 use Rattle.laws.specs.Listed.{In, Once}
@@ -36,17 +36,8 @@ use Rattle.grids.specs.Sum.{mostInCell}
 use Rattle.grids.proofs.TenLaws.{tests-none, file-most, shape-most}
 use Rattle.grids.proofs.GridLaws.{positive, in-file, in-files, Lowest, lowest-is, lowest-at, lowest-none, first-ten, zeros-are, grid-total, not-long}
 
-head : List ℕ → ℕ
-head [] = 0
-head (x ∷ xs) = x
-
-tail : List ℕ → List ℕ
-tail [] = []
-tail (x ∷ xs) = xs
-
 tail-same : (n : ℕ) (p q : List ℕ) → n ∷ p ≡ n ∷ q → p ≡ q
-unfolding tail
-tail-same n p q e = ap tail e
+tail-same n p q e = ap (drop 1) e
 
 module _ (files : Files) where
   -- A TEST that holds is a break of its ten and file
@@ -115,7 +106,7 @@ module _ (files : Files) where
   list-once = once-map (λ p. lowest files ∷ p) (tail-same (lowest files)) _ (places-once (breaksOf files (lowest files)))
 
   list-broken : (p : List ℕ) → In p listOf → (n : ℕ) × (k : Kind) × (i : ℕ) × (f : ℕ) × (p ≡ breakAt n k i f) × IsBroken files n k i f
-  unfolding listOf head
+  unfolding listOf
   list-broken p h = ⊎-elim quiet here (lowest-is files)
     where
       quiet : (lowest files ≡ 0) × ((t : ℕ) → t < groups + 1 → many (breaksOf files t) ≡ 0) → (n : ℕ) × (k : Kind) × (i : ℕ) × (f : ℕ) × (p ≡ breakAt n k i f) × IsBroken files n k i f
@@ -130,7 +121,7 @@ module _ (files : Files) where
           let a = map-in (λ q. lowest files ∷ q) (placesIn (breaksOf files (lowest files))) h in
           let b = place-stands (breaksOf files (lowest files)) (a .0) (a .1) in
           let s = stands files p (b .0) (ap (at (breaks files)) (a .2) ∙ in-breaks (a .0) (w .within) ∙ b .1) in
-          let e : s .n / 10 ≡ lowest files = ap head (sym (s .place) ∙ a .2) in
+          let e : s .n / 10 ≡ lowest files = ap (λ (x : List ℕ). getD x 0 0) (sym (s .place) ∙ a .2) in
           (s .n, s .k, s .i, s .f, s .place, lowest-broken w (s .n) (s .k) (s .i) (s .f) (s .here) e)
 
   list-all : (n : ℕ) (k : Kind) (i f : ℕ) → IsBroken files n k i f → In (breakAt n k i f) listOf
@@ -160,13 +151,13 @@ module _ (files : Files) where
       ∙ ap (λ (w : Which). at (atWhich (breaksIn files (lowest files)) w) q) (which-file k)
 
   file-broken : (k : Kind) (p : List ℕ) → In p (fileList k) → (n : ℕ) × (i : ℕ) × (f : ℕ) × (p ≡ breakAt n k i f) × IsBroken files n k i f
-  unfolding fileList head tail listOf
+  unfolding fileList listOf
   file-broken k p h =
       let a = map-in (λ q. lowest files ∷ fileOf k ∷ q) (placesIn (breaksIn files (lowest files) k)) h in
       let b = place-stands (breaksIn files (lowest files) k) (a .0) (a .1) in
       let c = stands-place (breaksOf files (lowest files)) (fileOf k ∷ a .0) (in-file-breaks k (a .0) ∙ b .1) in
       let w = list-broken p (in-same (sym (a .2)) (in-map (λ q. lowest files ∷ q) c)) in
-      let e : fileOf (w .1) ≡ fileOf k = ap (λ (x : List ℕ). head (tail x)) (sym (w .4) ∙ a .2) in
+      let e : fileOf (w .1) ≡ fileOf k = ap (λ (x : List ℕ). getD x 1 0) (sym (w .4) ∙ a .2) in
       let q = file-same (w .1) k e in
       (w .0, w .2, w .3, w .4 ∙ ap (λ (x : Kind). breakAt (w .0) x (w .2) (w .3)) q, subst (λ (x : Kind). IsBroken files (w .0) x (w .2) (w .3)) q (w .5))
 

@@ -130,8 +130,3 @@ pub total-row : (g : ℕ → ℕ) (n : ℕ) → total (row g n) ≡ sumOf g n
 unfolding row sumOf total
 total-row g zero = refl
 total-row g (suc n) = let r = total-row g n in let s = total-append (row g n) (g n ∷ []) in omega arith
-
--- no number of a list whose total is 0
-pub total-none : (xs : List ℕ) → total xs ≡ 0 → (x : ℕ) (ys : List ℕ) → xs ≡ x ∷ ys → (x ≡ 0) × (total ys ≡ 0)
-unfolding total
-total-none xs e x ys q = let z : x + total ys ≡ 0 = rw q at e in (omega arith, omega arith)
