@@ -25,7 +25,7 @@ use Rattle.record.specs.Breaks.{shapeTests, there, testsAt, broken}
 use Rattle.record.proofs.TableLaws.{sane}
 use Rattle.keys.specs.machinery.Groups.{brokenBy}
 use Rattle.keys.specs.machinery.Findings.{keysBroken}
-use Rattle.topology.specs.machinery.Findings.{topologyBroken}
+use Rattle.fifties.specs.machinery.Findings.{topologyBroken}
 use Rattle.judge.specs.Verdict.{judged}
 use Rattle.judge.specs.Broken.{placeAt}
 use Rattle.judge.specs.machinery.Searched.{brokenIn}

@@ -40,7 +40,7 @@ use Rattle.keys.specs.machinery.Groups.{brokenBy}
 use Rattle.keys.specs.Rules.{orFirst, firstWith, refersToCatalogue, mistyped, typedIn, breaks41, keyTests, keyReasons}
 use Rattle.keys.specs.machinery.Findings.{keysBroken}
 use Rattle.topology.specs.Rules.{fiftyReasons}
-use Rattle.topology.specs.machinery.Findings.{topologyBroken}
+use Rattle.fifties.specs.machinery.Findings.{topologyBroken}
 use Rattle.judge.specs.Verdict.{judged}
 use Rattle.judge.specs.Broken.{reasonOf, placeAt}
 use Rattle.judge.specs.machinery.Searched.{brokenIn}

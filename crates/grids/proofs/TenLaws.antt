@@ -32,7 +32,7 @@ use Rattle.keys.specs.machinery.Groups.{Tests, cellsOf}
 use Rattle.keys.specs.machinery.Cells.{cellTest, tallyIn, keyTally}
 use Rattle.keys.specs.Rules.{keyTests}
 use Rattle.topology.specs.Rules.{fifties}
-use Rattle.topology.specs.machinery.Cells.{fiftyTally}
+use Rattle.fifties.specs.machinery.Cells.{fiftyTally}
 use Rattle.judge.specs.Broken.{isThere, saidTests, testsOf, breaksIn}
 
 min-under : (a b : ℕ) → min a b ≤ b

@@ -9,7 +9,7 @@ use record::kind::FILES;
 use record::kind::Kind;
 use record::kind::Which;
 use record::kind::kind_of;
-use topology::group::tally_topology;
+use fifties::group::tally_topology;
 ghost use mathlib.Core.Path.{_≡_};
 ghost use mathlib.Core.List.{List, map};
 ghost use Prim.Native.Nat.{ℕ, _+_};

@@ -24,7 +24,7 @@ use Rattle.keys.specs.Rules.{repeats, breaks30, dangles, breaks40, typedIn, mis
 use Rattle.keys.specs.machinery.Findings.{keysIn, keysFinding}
 use Rattle.keys.specs.machinery.Groups.{cellBreak, groupFinding, overFiles}
 use Rattle.topology.specs.Rules.{placed, nodeIn, highestIn, meets, gap, breaks50, unpaired, breaks51, startElsewhere, breaks52, endElsewhere, breaks53, samePlace, placedBefore, breaks54, pointElsewhere, breaks55, nodeUsed, breaks56, objectIdle, breaks57, breaks59, fifties, fiftyReasons}
-use Rattle.topology.specs.machinery.Findings.{topologyIn, topologyFinding}
+use Rattle.fifties.specs.machinery.Findings.{topologyIn, topologyFinding}
 use Rattle.judge.specs.Broken.{saidTests, testsOf, reasonOf, breaksIn, breaksOf, breaks, countsOf}
 use Rattle.judge.specs.Verdict.{judged, verdictOf}
 use Rattle.judge.specs.Cases.{ascii, Case, Outcome, outcome, table}

@@ -34,7 +34,7 @@ use Rattle.record.proofs.TableLaws.{sane, file-same, which-file}
 use Rattle.keys.specs.machinery.Groups.{brokenBy}
 use Rattle.keys.specs.Rules.{keyTests}
 use Rattle.keys.specs.machinery.Findings.{keysBroken}
-use Rattle.topology.specs.machinery.Findings.{topologyBroken}
+use Rattle.fifties.specs.machinery.Findings.{topologyBroken}
 use Rattle.judge.specs.declared.judge.Verdict.{Verdict}
 use Rattle.judge.specs.Broken.{groups, isThere, saidTests, testsOf, reasonOf, holds, breaksIn, atWhich, breaksOf, breaks, placeAt, First, Finds, Judges, countsOf}
 use Rattle.judge.specs.Verdict.{judged, verdictOf}

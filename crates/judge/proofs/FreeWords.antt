@@ -36,7 +36,7 @@ use Rattle.record.proofs.CutLaws.{record-past, record-long}
 use Rattle.record.proofs.FindingLaws.{inFile, fields-is, shape-is}
 use Rattle.keys.specs.machinery.Groups.{breakIn, overFiles}
 use Rattle.keys.proofs.Agree.{Agrees, isRead, keys-agree}
-use Rattle.topology.proofs.Agree.{topology-agree}
+use Rattle.fifties.proofs.Agree.{topology-agree}
 use Rattle.judge.specs.Broken.{groups, countsOf}
 use Rattle.judge.specs.Verdict.{judged, verdictOf}
 use Rattle.judge.specs.machinery.Searched.{groupAt, searched}

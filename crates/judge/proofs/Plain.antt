@@ -32,8 +32,8 @@ use Rattle.keys.specs.machinery.Groups.{Reasons, breakIn, overFiles}
 use Rattle.keys.proofs.GroupMeaning.{keys-means, over-fine, over-broken, break-none, break-some}
 use Rattle.keys.proofs.Shown.{ShownBy, keys-shown}
 use Rattle.topology.specs.Rules.{fiftyReasons}
-use Rattle.topology.specs.machinery.Findings.{topologyIn, topologyFinding, topologyBroken}
-use Rattle.topology.proofs.Meaning.{topology-means, topology-shown}
+use Rattle.fifties.specs.machinery.Findings.{topologyIn, topologyFinding, topologyBroken}
+use Rattle.fifties.proofs.Meaning.{topology-means, topology-shown}
 use Rattle.judge.specs.Broken.{groups, reasonOf, placeAt}
 use Rattle.judge.specs.machinery.Searched.{groupAt, searched, brokenIn}
 

@@ -29,7 +29,7 @@ use Rattle.record.specs.Names.{nameAt, vertexKey, keyOf}
 use Rattle.keys.specs.Rules.{repeats, breaks30, dangles, danglesTo, breaks40, typedIn, mistyped, breaks41, keyTests}
 use Rattle.keys.specs.machinery.Findings.{keysBroken}
 use Rattle.topology.specs.Rules.{xAt, yAt, zAt, isAt, placed, nodeIn, hasVertex, highestIn, highest, meets, elsewhere, tramoLine, gap, breaks50, unpaired, breaks51, startElsewhere, breaks52, endElsewhere, breaks53, samePlace, placedBefore, breaks54, pointElsewhere, breaks55, nodeUsed, breaks56, objectIdle, breaks57, breaks59, fifties}
-use Rattle.topology.specs.machinery.Findings.{topologyTests, topologyBroken}
+use Rattle.fifties.specs.machinery.Findings.{topologyTests, topologyBroken}
 use Rattle.judge.proofs.NoneBroken.{NoTest, none-tests, tests-none}
 use Rattle.judge.proofs.Turns.{highest-turn}
 

@@ -13,7 +13,7 @@ use Rattle.record.specs.Files.{Delivery}
 use Rattle.keys.specs.machinery.Groups.{brokenBy}
 use Rattle.keys.specs.Rules.{keyTests}
 use Rattle.keys.specs.machinery.Findings.{keysBroken}
-use Rattle.topology.specs.machinery.Findings.{topologyBroken}
+use Rattle.fifties.specs.machinery.Findings.{topologyBroken}
 use Rattle.judge.specs.Broken.{isThere, saidTests, saidHolds}
 
 pub under-pick : (b : Bool) (xs : List Bool) (u : ℕ) → getD (pick b xs []) u false ≡ (b && getD xs u false)

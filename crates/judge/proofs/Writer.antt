@@ -20,7 +20,7 @@ use Rattle.keys.specs.machinery.Groups.{breakIn}
 use Rattle.keys.specs.Rules.{keyTests, keyReasons}
 use Rattle.keys.specs.machinery.Findings.{keysBroken, keysIn, keysFinding}
 use Rattle.topology.specs.Rules.{fiftyReasons}
-use Rattle.topology.specs.machinery.Findings.{topologyTests, topologyBroken, topologyIn, topologyFinding}
+use Rattle.fifties.specs.machinery.Findings.{topologyTests, topologyBroken, topologyIn, topologyFinding}
 use Rattle.judge.specs.Broken.{groups, countsOf}
 use Rattle.judge.specs.Verdict.{judged, verdictOf}
 use Rattle.judge.specs.machinery.Searched.{groupAt, searched}

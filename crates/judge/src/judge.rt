@@ -9,7 +9,7 @@ use record::kind::Kind;
 use record::kind::Which;
 use record::kind::kind_of;
 use record::reason::Finding;
-use topology::group::check_topology;
+use fifties::group::check_topology;
 ghost use mathlib.Core.Path.{_≡_};
 ghost use mathlib.Core.List.{List, map};
 ghost use Prim.Native.Nat.{ℕ};

@@ -2,10 +2,6 @@ pub mod LentLaws
 pub mod TopLaws
 pub mod OrderRules
 pub mod EndLaws
-pub mod FiftyLaws
-pub mod FiftyTallies
-pub mod Meaning
-pub mod Agree
 pub mod SpotLaws
 pub mod UsedLaws
 pub mod IdleLaws

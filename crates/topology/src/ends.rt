@@ -186,7 +186,7 @@ fn is_apart<'a, 'b>(
 
 // Marks, of t tramos, those whose end lies elsewhere than its node, by the columns of the highest keys of their lines and of the nodes' names.
 // Each node is looked up once: what it finds is in use.
-pub(crate) fn mark_apart<'a, 'b>(
+pub fn mark_apart<'a, 'b>(
     end: End,
     ends: &'b [u64],
     wanted: &'b [u64],
@@ -246,7 +246,7 @@ pub(crate) fn mark_apart<'a, 'b>(
 }
 
 // Marks, of t tramos, those whose line has no highest vertex, by the column of the highest keys.
-pub(crate) fn mark_endless(ends: &[u64], t: usize, marks: &mut [u8])
+pub fn mark_endless(ends: &[u64], t: usize, marks: &mut [u8])
     requires { ⌜ (t ≤ length (now ends)) × (t ≤ length (now marks)) ⌝ }
     ensures { λ _. ⌜ Marked (now (marks .entry)) (now (marks .exit)) (λ i. eqb (getD (now (ends .entry)) i 0) 0) t ⌝ }
 {
@@ -283,7 +283,7 @@ fn is_astray<'a, 'b>(
 
 // Marks, of n point objects, those that lie elsewhere than their node, by the columns of what they name and of X and Y. What they name is in
 // use.
-pub(crate) fn mark_astray<'a, 'b>(
+pub fn mark_astray<'a, 'b>(
     wanted: &'b [u64],
     xs: &'b [u64],
     ys: &'b [u64],

@@ -41,7 +41,7 @@ fn same_place(nodo: &[u8], i: usize, j: usize) -> bool
 }
 
 // The first node before node i at its place, by scanning.
-pub(crate) fn place_before(nodo: &[u8], i: usize) -> Found
+pub fn place_before(nodo: &[u8], i: usize) -> Found
     ensures { λ r. ⌜ r ≡ foundOf (firstIndex (samePlace (tableOf (now (nodo .entry)) Kind.Nodo) i) i) ⌝ }
 {
     let mut j = 0;
@@ -62,7 +62,7 @@ pub fn spot(x: u64, y: u64, z: u64) -> u64
 }
 
 // 57: marks the linear objects that no tramo names, with their ids in hand.
-pub(crate) fn mark_idle_objects<'a, 'b>(
+pub fn mark_idle_objects<'a, 'b>(
     tramo: &'a [u8],
     ob_lin: &'a [u8],
     ids: &'b [u64],
@@ -204,7 +204,7 @@ fn unmark_places<'a, 'b>(
 // 56: marks the nodes that start or end no tramo, have the X and Y of no vertex, and are named by no point object, with their ids and which
 // are named in hand and room lent. Vertices are read only where a node is named by nothing; tramos and point objects are there for the
 // contract alone.
-pub(crate) fn mark_idle_nodes<'a, 'b>(
+pub fn mark_idle_nodes<'a, 'b>(
     ob_pun: &'a [u8],
     tramo: &'a [u8],
     vertice: &'a [u8],

@@ -52,7 +52,7 @@ fn is_alone<'a>(
 }
 
 // Marks the vertices that break 50, with their keys in hand.
-pub(crate) fn mark_gaps<'a>(
+pub fn mark_gaps<'a>(
     keys: &'a [u64],
     order: &'a [usize],
     hints: &'a [u16],
@@ -71,7 +71,7 @@ pub(crate) fn mark_gaps<'a>(
 }
 
 // Marks the vertices that break 51, with their keys in hand.
-pub(crate) fn mark_alone<'a>(
+pub fn mark_alone<'a>(
     keys: &'a [u64],
     order: &'a [usize],
     hints: &'a [u16],

@@ -24,7 +24,7 @@ ghost use Rattle.topology.specs.machinery.Places.{spotOf, sameIn, Positi
 ghost use Rattle.topology.specs.machinery.Used.{};
 
 // X and Y of each record of a file.
-pub(crate) fn fill_positions(
+pub fn fill_positions(
     s: &[u8],
     k: Kind,
     most: usize,
@@ -100,7 +100,7 @@ fn mark_same<'a>(
 }
 
 // 54: marks the nodes at an earlier one's place, with X and Y of the nodes in hand and room lent. Where no two spots are equal no two places are.
-pub(crate) fn mark_same_place<'a, 'b>(
+pub fn mark_same_place<'a, 'b>(
     nodo: &'a [u8],
     xs: &'b [u64],
     ys: &'b [u64],

@@ -136,7 +136,7 @@ pub(crate) fn fill_ends<'a>(
 }
 
 // The highest key of each tramo's line, with the keys of the n vertices in hand and room lent.
-pub(crate) fn prepare_ends<'a, 'b>(
+pub fn prepare_ends<'a, 'b>(
     tramo: &'a [u8],
     keys: &'b [u64],
     n: usize,

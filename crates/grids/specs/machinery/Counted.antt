@@ -10,7 +10,7 @@ use Rattle.record.specs.Table.{kinds, fileCount}
 use Rattle.record.specs.Files.{Files, deliveryOf}
 use Rattle.record.specs.machinery.Counts.{shapeMany, fieldsMany}
 use Rattle.keys.specs.machinery.Cells.{keyTally}
-use Rattle.topology.specs.machinery.Cells.{fiftyTally}
+use Rattle.fifties.specs.machinery.Cells.{fiftyTally}
 use Rattle.judge.specs.Broken.{groups}
 use Rattle.grids.specs.Grid.{Grid}
 

@@ -13,7 +13,7 @@ use Rattle.record.specs.Files.{Files, deliveryOf}
 use Rattle.record.specs.Breaks.{findingOf, shapeFinding, fieldsFinding, broken}
 use Rattle.keys.specs.machinery.Groups.{breakIn, overFiles}
 use Rattle.keys.specs.machinery.Findings.{keysFinding, keysBroken}
-use Rattle.topology.specs.machinery.Findings.{topologyFinding, topologyBroken}
+use Rattle.fifties.specs.machinery.Findings.{topologyFinding, topologyBroken}
 use Rattle.judge.specs.Broken.{groups}
 
 -- the first break of the reasons of a ten

@@ -5,7 +5,7 @@ use mathlib.Core.Path.{ap, _∙_}
 use borrow.Author.Needs.{needs}
 use Rattle.index.specs.declared.tally.Tally.{Tally}
 use Rattle.keys.specs.machinery.Cells.{keyTallies}
-use Rattle.topology.specs.machinery.Cells.{fiftyTallies}
+use Rattle.fifties.specs.machinery.Cells.{fiftyTallies}
 use Rattle.grids.specs.machinery.Counted.{countedIn, countedOf}
 use Rattle.grids.proofs.GridLaws.{counted-else}
 use Rattle.grids.proofs.grid.count_ten.Statement.{statement}

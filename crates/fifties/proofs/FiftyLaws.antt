@@ -1,0 +1,195 @@
+-- The cells of the fifties (specs/Rules.antt): those of each file at which no rule is read, where no test holds. The reasons with their data.
+-- Assumes nothing.
+use Prim.Native.Nat.{ℕ, zero, suc, _+_, _*_, _/_, _%_, _≤_}
+use mathlib.Core.Bool.{Bool, true, false, _&&_}
+use mathlib.Core.List.{List, [], _∷_}
+use mathlib.Core.Option.{Option, none, some}
+use mathlib.Core.Path.{_≡_, refl, sym, _∙_}
+use native.Mathlib.Numerals.{add-one}
+use native.Mathlib.Omega.{arith}
+use lib.Dec.{eqb}
+use lib.ListN.{getD}
+use borrow.Author.Tests.{eq-eqb, eqb-true}
+use Rattle.laws.specs.Find.{firstIndex}
+use Rattle.laws.proofs.FindLaws.{true-false, index-some-at}
+use Rattle.index.specs.declared.Found.{Found}
+use Rattle.index.specs.Keys.{foundOf}
+use Rattle.record.specs.declared.kind.Kind.{Kind}
+use Rattle.record.specs.declared.kind.Kind.the-variants.{Catalogo, ObPun, ObTex, ObLin, Tramo, Vertice, Nodo}
+use Rattle.record.specs.declared.reason.Reason.the-variants.{LongFile10, SamePlace54}
+use Rattle.record.proofs.TableLaws.{NoneOf}
+use Rattle.record.specs.Says.{Table}
+use Rattle.record.specs.Files.{Delivery}
+use Rattle.keys.specs.Rules.{orFirst}
+use Rattle.topology.specs.machinery.Places.{orIndex}
+use Rattle.topology.specs.Rules.{isAt, samePlace, breaks50, breaks51, breaks52, breaks53, breaks54, breaks55, breaks56, breaks57, breaks59, fifties, reasonsAt}
+
+-- IN A LIST, whose first is number n: the default d stands at the number u, where it does at each number that u can be
+pub data Else {A : Type 0} (d : A) (u : ℕ) : ℕ → List A → Type 0 where
+  end : {n : ℕ} → Else d u n []
+  plain : {n : ℕ} {xs : List A} → Else d u (suc n) xs → Else d u n (d ∷ xs)
+  past : {n : ℕ} {x : A} {xs : List A} → (u ≡ n → x ≡ d) → Else d u (suc n) xs → Else d u n (x ∷ xs)
+
+other : {A : Type 0} {d : A} {u n : ℕ} {x : A} {xs : List A} → (u ≡ n → ⊥) → Else d u (suc n) xs → Else d u n (x ∷ xs)
+other h o = past (λ e. absurd (h e)) o
+
+else-from : {A : Type 0} {d : A} {u n : ℕ} {xs : List A} → Else d u n xs → (v : ℕ) → u ≡ n + v → getD xs v d ≡ d
+else-from end v e = refl
+else-from (plain o) zero e = refl
+else-from (plain o) (suc v) e = else-from o v (omega arith)
+else-from (past h o) zero e = h (omega arith)
+else-from (past h o) (suc v) e = else-from o v (omega arith)
+
+pub else-default : {A : Type 0} {d : A} {u : ℕ} {xs : List A} → Else d u 0 xs → getD xs u d ≡ d
+else-default {u = u} o = else-from o u (omega arith)
+
+-- WHERE A RULE IS READ: no rule is read of file k at field f for the reason u
+pub record Free (k : Kind) (f u : ℕ) : Type 0 where
+  pub gap : (isAt Vertice 2 k f && eqb u 0) ≡ false
+  pub alone : (isAt Vertice 2 k f && eqb u 1) ≡ false
+  pub start : (isAt Tramo 6 k f && eqb u 2) ≡ false
+  pub last : (isAt Tramo 7 k f && eqb u 3) ≡ false
+  pub place : (isAt Nodo 0 k f && eqb u 4) ≡ false
+  pub point : (isAt ObPun 3 k f && eqb u 5) ≡ false
+  pub idle : (isAt Nodo 0 k f && eqb u 6) ≡ false
+  pub object : (isAt ObLin 0 k f && eqb u 7) ≡ false
+  pub line : (isAt Tramo 4 k f && eqb u 9) ≡ false
+
+not-read : (b t : Bool) {u v : ℕ} → (b && eqb u v) ≡ false → u ≡ v → (b && t) ≡ false
+not-read true t {u} {v} h e = absurd (true-false (sym (eq-eqb u v e) ∙ h))
+not-read false t h e = refl
+
+pub free-tests : (d : Delivery) {k : Kind} (i : ℕ) {f u : ℕ} → Free k f u → Else false u 0 (fifties d k i f)
+unfolding breaks50 breaks51 breaks52 breaks53 breaks54 breaks55 breaks56 breaks57 breaks59 fifties
+free-tests d {k} i {f} o =
+    past (not-read (isAt Vertice 2 k f) _ (o .gap))
+    (past (not-read (isAt Vertice 2 k f) _ (o .alone))
+    (past (not-read (isAt Tramo 6 k f) _ (o .start))
+    (past (not-read (isAt Tramo 7 k f) _ (o .last))
+    (past (not-read (isAt Nodo 0 k f) _ (o .place))
+    (past (not-read (isAt ObPun 3 k f) _ (o .point))
+    (past (not-read (isAt Nodo 0 k f) _ (o .idle))
+    (past (not-read (isAt ObLin 0 k f) _ (o .object))
+    (plain
+    (past (not-read (isAt Tramo 4 k f) _ (o .line)) end)))))))))
+
+-- THE REASONS
+first-index : (o : Option ℕ) → orIndex (foundOf o) ≡ orFirst o
+first-index none = refl
+first-index (some j) = refl
+
+module _ (p : ℕ → Bool) (n : ℕ) {g : Found} (e : g ≡ foundOf (firstIndex p n)) where
+  pub index-under : orIndex g ≤ n
+  index-under = rw (e, first-index) (go (firstIndex p n) refl)
+    where
+      go : (o : Option ℕ) → firstIndex p n ≡ o → orFirst o ≤ n
+      go none q = omega arith
+      go (some j) q = omega (arith, index-some-at p n q .0)
+
+module _ (nodes : Table) (i u : ℕ) where
+  pub reason-54 : {g : Found} {x : ℕ} → u ≡ 4 → g ≡ foundOf (firstIndex (samePlace nodes i) i) → x ≡ orIndex g
+      → SamePlace54 (x + 1) ≡ getD (reasonsAt nodes i) u LongFile10
+  reason-54 e q h = rw (e, h, q, first-index, add-one)
+
+  pub reason-else : NoneOf (9 ∷ 7 ∷ 6 ∷ 5 ∷ 4 ∷ 3 ∷ 2 ∷ 1 ∷ 0 ∷ []) u → LongFile10 ≡ getD (reasonsAt nodes i) u LongFile10
+  reason-else o =
+      sym
+      (else-default
+      (other (o .0 .0 .0 .0 .0 .0 .0 .0 .1)
+      (other (o .0 .0 .0 .0 .0 .0 .0 .1)
+      (other (o .0 .0 .0 .0 .0 .0 .1)
+      (other (o .0 .0 .0 .0 .0 .1)
+      (other (o .0 .0 .0 .0 .1)
+      (other (o .0 .0 .0 .1)
+      (other (o .0 .0 .1)
+      (other (o .0 .1)
+      (plain
+      (other (o .1) end)))))))))))
+
+-- A CELL c that is not the one of field f and reason u
+not-cell : (c f u : ℕ) → (c ≡ f * 10 + u → ⊥) → (eqb (c / 10) f && eqb (c % 10) u) ≡ false
+not-cell c f u ne = go (eqb (c / 10) f) refl (eqb (c % 10) u) refl
+  where
+    go : (s : Bool) → eqb (c / 10) f ≡ s → (t : Bool) → eqb (c % 10) u ≡ t → (s && t) ≡ false
+    go true a true b = absurd (ne (omega (arith, eqb-true (c / 10) f a, eqb-true (c % 10) u b)))
+    go true a false b = refl
+    go false a t b = refl
+
+-- THE CELLS of each file that have no rule
+pub free-vertice : (c : ℕ) → (c ≡ 20 → ⊥) → (c ≡ 21 → ⊥) → Free Vertice (c / 10) (c % 10)
+free-vertice c a b =
+    record {
+      gap = not-cell c 2 0 a;
+      alone = not-cell c 2 1 b;
+      start = refl;
+      last = refl;
+      place = refl;
+      point = refl;
+      idle = refl;
+      object = refl;
+      line = refl;
+    }
+
+pub free-tramo : (c : ℕ) → (c ≡ 49 → ⊥) → (c ≡ 62 → ⊥) → (c ≡ 73 → ⊥) → Free Tramo (c / 10) (c % 10)
+free-tramo c a b e =
+    record {
+      gap = refl;
+      alone = refl;
+      start = not-cell c 6 2 b;
+      last = not-cell c 7 3 e;
+      place = refl;
+      point = refl;
+      idle = refl;
+      object = refl;
+      line = not-cell c 4 9 a;
+    }
+
+pub free-nodo : (c : ℕ) → (c ≡ 4 → ⊥) → (c ≡ 6 → ⊥) → Free Nodo (c / 10) (c % 10)
+free-nodo c a b =
+    record {
+      gap = refl;
+      alone = refl;
+      start = refl;
+      last = refl;
+      place = not-cell c 0 4 a;
+      point = refl;
+      idle = not-cell c 0 6 b;
+      object = refl;
+      line = refl;
+    }
+
+pub free-ob-pun : (c : ℕ) → (c ≡ 35 → ⊥) → Free ObPun (c / 10) (c % 10)
+free-ob-pun c a =
+    record {
+      gap = refl;
+      alone = refl;
+      start = refl;
+      last = refl;
+      place = refl;
+      point = not-cell c 3 5 a;
+      idle = refl;
+      object = refl;
+      line = refl;
+    }
+
+pub free-ob-lin : (c : ℕ) → (c ≡ 7 → ⊥) → Free ObLin (c / 10) (c % 10)
+free-ob-lin c a =
+    record {
+      gap = refl;
+      alone = refl;
+      start = refl;
+      last = refl;
+      place = refl;
+      point = refl;
+      idle = refl;
+      object = not-cell c 0 7 a;
+      line = refl;
+    }
+
+pub free-catalogo : (c : ℕ) → Free Catalogo (c / 10) (c % 10)
+free-catalogo c =
+    record { gap = refl; alone = refl; start = refl; last = refl; place = refl; point = refl; idle = refl; object = refl; line = refl }
+
+pub free-ob-tex : (c : ℕ) → Free ObTex (c / 10) (c % 10)
+free-ob-tex c =
+    record { gap = refl; alone = refl; start = refl; last = refl; place = refl; point = refl; idle = refl; object = refl; line = refl }

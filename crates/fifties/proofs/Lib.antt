@@ -1,0 +1,4 @@
+pub mod FiftyLaws
+pub mod FiftyTallies
+pub mod Meaning
+pub mod Agree
