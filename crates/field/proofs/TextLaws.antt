@@ -15,7 +15,7 @@ use lib.Seq.{take-all, take-at, take-take, take-append-le, ext-getD}
 use borrow.Author.Tests.{eqb-true, eq-eqb, ne-eqb, leb-true, le-leb}
 use Rattle.laws.specs.Row.{pick, each}
 use Rattle.laws.proofs.FindLaws.{true-false}
-use Rattle.laws.proofs.RowLaws.{and-true, true-and}
+use Rattle.laws.proofs.RowLaws.{and-true, true-and, neither}
 use Rattle.field.specs.declared.class.Class.{Class}
 use Rattle.field.specs.declared.class.Class.the-variants.{Blank, Text, Plain}
 use Rattle.field.specs.Bytes.{inClass, allOf, blanks}
@@ -170,6 +170,14 @@ pub edged-first : (b len : ℕ) (s : List ℕ) → 0 < len → edgedBy b (firstB
 unfolding edgedBy
 edged-first b len s h = rw (length-first, first-at len s 0 h, first-at len s (len - 1) (omega arith))
 
+pub edged-not : (b : ℕ) (t : List ℕ) → eqb (getD t 0 0) b ≡ false → eqb (getD t (length t - 1) 0) b ≡ false → edgedBy b t ≡ false
+unfolding edgedBy
+edged-not b t f l = rw (f, l)
+
+pub not-edged : (b : ℕ) (t : List ℕ) → edgedBy b t ≡ false → (eqb (getD t 0 0) b ≡ false) × (eqb (getD t (length t - 1) 0) b ≡ false)
+unfolding edgedBy
+not-edged b t e = neither _ _ e
+
 pub edged-none : (b : ℕ) (s : List ℕ) → eqb 0 b ≡ edgedBy b (firstBytes 0 s)
 unfolding edgedBy firstBytes
 edged-none b s = go (eqb 0 b)
@@ -215,10 +223,10 @@ plain-at s k e = go (decLt k (length s)) (eqb (getD s k 0) 160) refl
     go (no l) b q = sym q ∙ rw (List·getD-eq-default s 0 {n = k} (omega arith)) refl
 
 pub plain-lawful : (s : List ℕ) → (getD s 0 0 ≡ 32 → ⊥) → allOf Plain s ≡ true → lawfulText s ≡ true
-unfolding trimmed edgedBy
+unfolding trimmed
 plain-lawful s n e =
     let t = all-take Plain (trimTo (length s) s) s e in
-    sym (lawful-text s n) ∙ rw (plain-text s e, plain-at (trimmed s) 0 t, plain-at (trimmed s) (length (trimmed s) - 1) t)
+    sym (lawful-text s n) ∙ rw (plain-text s e, edged-not 160 (trimmed s) (plain-at (trimmed s) 0 t) (plain-at (trimmed s) (length (trimmed s) - 1) t))
 
 -- A TEXT AS ONE NUMBER
 base256-same : (w : ℕ) (s u : List ℕ) → ((k : ℕ) → k < w → getD s k 0 < 256) → ((k : ℕ) → k < w → getD u k 0 < 256) → base256 w s ≡ base256 w u
