@@ -14,12 +14,12 @@ use Rattle.laws.specs.Row.{pick}
 use Rattle.laws.proofs.FindLaws.{true-false}
 use Rattle.laws.proofs.RowLaws.{and-true, then-false, neither, picked}
 use Rattle.field.specs.declared.class.Class.the-variants.{Blank, Digit, Zero, Text}
-use Rattle.field.specs.Bytes.{allOf, blanks, lawfulText}
+use Rattle.field.specs.Bytes.{allOf, blanks}
 use Rattle.field.specs.Digits.{digits, numberWritten}
 use Rattle.field.specs.Signs.{isNeg, signed, signByte}
-use Rattle.field.specs.Texts.{padded, trimmed, notGiven}
+use Rattle.field.specs.Texts.{padded, trimmed, edgedBy, lawfulText, notGiven}
 use Rattle.field.proofs.DigitLaws.{digits-of-number, number-of-lt, zero-number, sign-back}
-use Rattle.field.proofs.TextLaws.{blank-is, trimmed-le, trimmed-last, trimmed-first, trimmed-text, trimmed-some, padded-trimmed, first-bytes-padded}
+use Rattle.field.proofs.TextLaws.{blank-is, trimmed-le, trimmed-last, trimmed-first, trimmed-text, trimmed-some, padded-trimmed, first-bytes-padded, edged-not}
 use Rattle.record.specs.declared.kind.Form.{Form}
 use Rattle.record.specs.declared.kind.Domain.{Domain}
 use Rattle.record.specs.declared.kind.Domain.the-variants.{Any, PlusMinus}
@@ -42,11 +42,12 @@ pub record Kept (t : List ℕ) (own : Said) (written : List ℕ) : Type 0 where
   pub gone : isMissing own ≡ allOf Blank t
 
 -- a text that is not blank
-lawful-parts : (t : List ℕ) → lawfulText t ≡ true → allOf Blank t ≡ false → (allOf Text t ≡ true) × (eqb (getD t 0 0) 32 ≡ false)
+lawful-parts : (t : List ℕ) → lawfulText t ≡ true → allOf Blank t ≡ false → (allOf Text t ≡ true) × (eqb (getD t 0 0) 32 ≡ false) × (edgedBy 160 (trimmed t) ≡ false)
 unfolding lawfulText
 lawful-parts t e n =
-    let p = and-true (allOf Text t) (allOf Blank t || not (eqb (getD t 0 0) 32)) e in
-    (p .0, first (eqb (getD t 0 0) 32) (rw n at (p .1)))
+    let q = and-true (allOf Text t && (allOf Blank t || not (eqb (getD t 0 0) 32))) (not (edgedBy 160 (trimmed t))) e in
+    let p = and-true (allOf Text t) (allOf Blank t || not (eqb (getD t 0 0) 32)) (q .0) in
+    (p .0, first (eqb (getD t 0 0) 32) (rw n at (p .1)), first (edgedBy 160 (trimmed t)) (q .1))
   where
     first : (b : Bool) → not b ≡ true → b ≡ false
     first true h = sym h
@@ -57,7 +58,8 @@ unfolding badText
 good-text t e n =
     let p = lawful-parts t e n in
     let some = trimmed-some t n in
-    rw (le-ltb (length t) (length (trimmed t)) (trimmed-le t), trimmed-text t (p .0), trimmed-first t some, p .1, trimmed-last t some)
+    let plain = edged-not 32 (trimmed t) (rw (trimmed-first t some) (p .1)) (trimmed-last t some) in
+    rw (le-ltb (length t) (length (trimmed t)) (trimmed-le t), trimmed-text t (p .0), plain, p .2)
 
 text-kept : (t : List ℕ) → lawfulText t ≡ true → Kept t (textSaid t) (textBytes (length t) (textSaid t))
 text-kept t e = go (allOf Blank t) refl

@@ -15,8 +15,8 @@ use Rattle.laws.specs.Row.{pick, row, each}
 use Rattle.laws.proofs.FindLaws.{true-false}
 use Rattle.laws.proofs.RowLaws.{and-true, and-last, neither, picked, Falses, end, more, falses, each-same}
 use Rattle.field.specs.declared.class.Class.the-variants.{Blank}
-use Rattle.field.specs.Bytes.{allOf, lawfulText}
-use Rattle.field.specs.Texts.{firstBytes}
+use Rattle.field.specs.Bytes.{allOf}
+use Rattle.field.specs.Texts.{trimTo, trimmed, edgedBy, lawfulText, firstBytes}
 use Rattle.field.proofs.TextLoops.{length-first}
 use Rattle.record.proofs.PackedLaws.{domain-fits}
 use Rattle.record.specs.declared.kind.Kind.{Kind}
@@ -81,7 +81,7 @@ module _ (s : List ℕ) (k : Kind) where
   none-22 = refl
 
   none-23 : breaks23 s k 0 ≡ false
-  unfolding breaks23 notText formAt colAt textOf widthAt lawfulText allOf each
+  unfolding breaks23 notText formAt colAt textOf widthAt lawfulText edgedBy trimmed trimTo allOf each
   none-23 = refl
 
   none-24 : breaks24 s k 0 ≡ false
@@ -89,7 +89,7 @@ module _ (s : List ℕ) (k : Kind) where
   none-24 = refl
 
   none-25 : breaks25 s k 0 ≡ false
-  unfolding breaks25 breaks22 breaks23 notNumber notText lawfulText formAt colAt textOf widthAt allOf each missingIn
+  unfolding breaks25 breaks22 breaks23 notNumber notText lawfulText edgedBy trimmed trimTo formAt colAt textOf widthAt allOf each missingIn
   none-25 = refl
 
 module _ (k : Kind) (v : ℕ → Said) (sh : (f : ℕ) → f ≤ fieldsOf k → shaped (formAt k f) (v f) ≡ true) (ok : valuesFinding k v ≡ Fine) where

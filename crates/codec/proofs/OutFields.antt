@@ -14,13 +14,13 @@ use Rattle.laws.specs.Row.{pick, each}
 use Rattle.laws.proofs.FindLaws.{true-false}
 use Rattle.laws.proofs.RowLaws.{neither}
 use Rattle.field.specs.declared.class.Class.the-variants.{Blank, Digit, Zero, Text}
-use Rattle.field.specs.Bytes.{allOf, blanks, lawfulText}
+use Rattle.field.specs.Bytes.{allOf, blanks}
 use Rattle.field.specs.Digits.{digits, numberWritten}
 use Rattle.field.specs.Signs.{signed, signByte}
-use Rattle.field.specs.Texts.{padded, trimmed, notGiven}
+use Rattle.field.specs.Texts.{padded, trimmed, edgedBy, lawfulText, notGiven}
 use Rattle.field.proofs.DigitLaws.{length-digits, digits-are, digits-not-blank, number-of-digits, zero-number, sign-trip, sign-of-byte}
 use Rattle.field.proofs.TextLoops.{length-padded}
-use Rattle.field.proofs.TextLaws.{blanks-are, not-blank-first, padded-first, padded-empty, padded-text, trimmed-blank, trimmed-padded}
+use Rattle.field.proofs.TextLaws.{blanks-are, not-blank-first, padded-first, padded-empty, padded-text, trimmed-blank, trimmed-padded, not-edged}
 use Rattle.record.proofs.PackedLaws.{formDomain}
 use Rattle.record.specs.declared.kind.Form.{Form}
 use Rattle.record.specs.declared.kind.Domain.{Domain}
@@ -47,6 +47,7 @@ record Good (w : ℕ) (t : List ℕ) : Type 0 where
   texts : allOf Text t ≡ true
   first : eqb (getD t 0 0) 32 ≡ false
   last : eqb (getD t (length t - 1) 0) 32 ≡ false
+  edges : edgedBy 160 t ≡ false
 
 good : (w : ℕ) (t : List ℕ) → ltb 0 (length t) ≡ true → badText w t ≡ false → Good w t
 unfolding badText
@@ -54,12 +55,14 @@ good w t s e =
     let p = neither _ _ e in
     let q = neither _ _ (p .0) in
     let r = neither _ _ (q .0) in
+    let f = not-edged 32 t (q .1) in
     record {
       some = ltb-true 0 (length t) s;
       fits = ltb-false w (length t) (r .0);
       texts = not-false _ (r .1);
-      first = q .1;
-      last = p .1;
+      first = f .0;
+      last = f .1;
+      edges = p .1;
     }
 
 -- padded, it has no blank in front and is left when trimmed
@@ -78,11 +81,11 @@ module _ {w : ℕ} {t : List ℕ} (g : Good w t) where
 
   good-lawful : lawfulText (padded w t) ≡ true
   unfolding lawfulText
-  good-lawful = rw (padded-text w t (g .texts), good-blank, good-start)
+  good-lawful = rw (padded-text w t (g .texts), good-blank, good-start, good-trimmed, g .edges)
 
 blank-lawful : (w : ℕ) → lawfulText (blanks w) ≡ true
-unfolding lawfulText allOf each
-blank-lawful w = rw (← padded-empty w, padded-text w [] refl, padded-empty w, blanks-are w)
+unfolding lawfulText edgedBy allOf each
+blank-lawful w = rw (trimmed-blank (blanks w) (blanks-are w), ← padded-empty w, padded-text w [] refl, padded-empty w, blanks-are w)
 
 -- what may be said as a text: nothing or a text
 data Textual (w : ℕ) : Said → Type 0 where
@@ -169,9 +172,9 @@ placed (text t) s = absurd (true-false (sym s))
 placed (coordinate z) s = some z
 
 sign-good : (w : ℕ) → 0 < w → (z : ℤ) → Good w (signByte z ∷ [])
-unfolding allOf each
-sign-good w h (pos n) = record { some = omega arith; fits = h; texts = refl; first = refl; last = refl }
-sign-good w h (negsuc n) = record { some = omega arith; fits = h; texts = refl; first = refl; last = refl }
+unfolding allOf edgedBy each
+sign-good w h (pos n) = record { some = omega arith; fits = h; texts = refl; first = refl; last = refl; edges = refl }
+sign-good w h (negsuc n) = record { some = omega arith; fits = h; texts = refl; first = refl; last = refl; edges = refl }
 
 -- - stands only before digits that are not all zero
 sign-within : (z : ℤ) (next : List ℕ) → (allOf Zero next ≡ eqb (natAbs z) 0) → not (isSignByte (signByte z)) || eqb (signByte z) 45 && allOf Zero next ≡ false

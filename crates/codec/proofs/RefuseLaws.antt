@@ -19,7 +19,7 @@ use Rattle.laws.specs.Find.{firstOf}
 use Rattle.laws.specs.Nest.{run}
 use Rattle.field.specs.declared.class.Class.the-variants.{Text}
 use Rattle.field.specs.Bytes.{allOf}
-use Rattle.field.specs.Texts.{firstBytes, notGiven}
+use Rattle.field.specs.Texts.{firstBytes, edgedBy, notGiven}
 use Rattle.field.proofs.TextLaws.{first-bytes-le}
 use Rattle.field.proofs.TextLoops.{length-first, first-at}
 use Rattle.record.specs.declared.kind.Kind.{Kind}
@@ -104,12 +104,12 @@ module _ (w len : ℕ) (s : List ℕ) where
   text-long l = rw (lt-ltb w (length (firstBytes len s)) (rw length-first l))
 
   pub text-short :
-      {t : List ℕ} {a : Bool} {b c : ℕ} → len ≤ w → w ≤ length s → t ≡ take len s → a ≡ allOf Text t → b ≡ getD t 0 0 → c ≡ getD t (len - 1) 0
-      → (not a || eqb b 32 || eqb c 32) ≡ badText w (firstBytes len s)
+      {t : List ℕ} {a b c : Bool} → len ≤ w → w ≤ length s → t ≡ take len s → a ≡ allOf Text t → b ≡ edgedBy 32 (firstBytes len s)
+      → c ≡ edgedBy 160 (firstBytes len s) → (not a || b || c) ≡ badText w (firstBytes len s)
   unfolding badText
   text-short l m e p q r =
       let o : take len s ≡ firstBytes len s = sym (first-bytes-le len s (omega arith)) in
-      rw (p, q, r, e, o, le-ltb w (length (firstBytes len s)) (rw length-first l), length-first)
+      rw (p, q, r, e, o, le-ltb w (length (firstBytes len s)) (rw length-first l))
 
 module _ (w : ℕ) (form : Form) (v : Value) where
   pub bad-number : form ≡ Number → false ≡ badSaid w (saidBy form v)

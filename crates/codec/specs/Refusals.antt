@@ -6,12 +6,12 @@ use mathlib.Core.Bool.{Bool, false, not, _&&_, _||_}
 use mathlib.Core.List.{List, [], _∷_}
 use lib.Dec.{ltb, eqb}
 use lib.IntN.{natAbs}
-use lib.ListN.{length, getD}
+use lib.ListN.{length}
 use Rattle.laws.specs.Row.{row, each}
 use Rattle.laws.specs.Nest.{Nest, node, run}
 use Rattle.field.specs.declared.class.Class.the-variants.{Text}
 use Rattle.field.specs.Bytes.{allOf}
-use Rattle.field.specs.Texts.{notGiven}
+use Rattle.field.specs.Texts.{edgedBy, notGiven}
 use Rattle.record.specs.declared.kind.Kind.{Kind}
 use Rattle.record.specs.declared.kind.Form.{Form}
 use Rattle.record.specs.declared.kind.Form.the-variants.{Words, Code, Sign, Number, Size}
@@ -38,9 +38,9 @@ tooLarge w (coordinate z) = not (ltb (natAbs z) (10 ^ w))
 unfoldable pub refuses62 : Kind → (ℕ → Said) → ℕ → Bool
 refuses62 k v f = tooLarge (widthAt k f) (v f)
 
--- too long for w, with a byte outside the A set, or beginning or ending in a blank
+-- too long for w, with a byte outside the A set, or beginning or ending in a blank or in A0
 unfoldable pub badText : ℕ → List ℕ → Bool
-badText w t = ltb w (length t) || not (allOf Text t) || eqb (getD t 0 0) 32 || eqb (getD t (length t - 1) 0) 32
+badText w t = ltb w (length t) || not (allOf Text t) || edgedBy 32 t || edgedBy 160 t
 
 abbrev pub badSaid : ℕ → Said → Bool
 badSaid w missing = false

@@ -2,9 +2,9 @@
 use crate::values::Value;
 use crate::values::Values;
 use field::class::Class;
-use field::class::byte;
 use field::number::has_digits;
 use field::number::magnitude;
+use field::words::edged_by;
 use field::words::not_given;
 use record::check::break_of;
 use record::check::first_true;
@@ -38,16 +38,15 @@ fn too_large(form: Form, w: usize, v: Value) -> bool
     }
 }
 
-// Whether the first len bytes, at least one, are no text of w bytes.
+// Whether the first len bytes are no text of w bytes.
 fn bad_text(w: usize, text: &[u8], len: usize) -> bool
-    requires { ⌜ (0 < len) × (w ≤ length (now text)) ⌝ }
+    requires { ⌜ w ≤ length (now text) ⌝ }
     ensures { λ r. ⌜ r ≡ badText w (firstBytes len (now (text .entry))) ⌝ }
 {
     if w < len {
         return true;
     }
-    let t = part(text, 0, len);
-    !Class::Text.all(t) | (byte(t, 0) == 32) | (byte(t, len - 1) == 32)
+    !Class::Text.all(part(text, 0, len)) | edged_by(32, text, len) | edged_by(160, text, len)
 }
 
 // 63: a bad text.

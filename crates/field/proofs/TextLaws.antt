@@ -1,7 +1,7 @@
 -- The laws of a text in a field: padding, trimming, the first bytes, and a text as one number (specs/Texts.antt).
 -- Assumes nothing.
 use Prim.Native.Nat.{ℕ, zero, suc, _+_, _-_, _≤_, _<_}
-use mathlib.Core.Bool.{Bool, true, false, _&&_, _||_, and-false, or-true}
+use mathlib.Core.Bool.{Bool, true, false, not, _&&_, _||_, and-false, or-true}
 use mathlib.Core.Bool as bool
 use mathlib.Core.List.{List, [], _∷_, _++_}
 use mathlib.Core.Path.{_≡_, refl, ap, sym, _∙_}
@@ -9,18 +9,18 @@ use mathlib.Core.Logic.{⊎-elim}
 use native.Mathlib.Nat.{not-suc-le-zero, le-of-suc-le-suc, eq-or-lt-of-le}
 use native.Mathlib.Decide.{decLt}
 use native.Mathlib.Omega.{arith}
-use lib.Dec.{eqb}
+use lib.Dec.{leb, eqb}
 use lib.ListN.{length, getD, take, replicate, length-replicate, getD-replicate, List·getD-eq-default}
 use lib.Seq.{take-all, take-at, take-take, take-append-le, ext-getD}
-use borrow.Author.Tests.{eqb-true, eq-eqb, ne-eqb}
+use borrow.Author.Tests.{eqb-true, eq-eqb, ne-eqb, leb-true, le-leb}
 use Rattle.laws.specs.Row.{pick, each}
 use Rattle.laws.proofs.FindLaws.{true-false}
-use Rattle.laws.proofs.RowLaws.{and-true, true-and}
+use Rattle.laws.proofs.RowLaws.{and-true, true-and, neither}
 use Rattle.field.specs.declared.class.Class.{Class}
-use Rattle.field.specs.declared.class.Class.the-variants.{Blank, Text}
-use Rattle.field.specs.Bytes.{inClass, allOf, blanks, lawfulText}
-use Rattle.field.specs.Texts.{padded, trimTo, trimmed, firstBytes, base256, wordOf}
-use Rattle.field.proofs.TextLoops.{length-padded, padded-in, padded-past, length-trimmed, trimmed-at, base-more}
+use Rattle.field.specs.declared.class.Class.the-variants.{Blank, Text, Plain}
+use Rattle.field.specs.Bytes.{inClass, allOf, blanks}
+use Rattle.field.specs.Texts.{padded, trimTo, trimmed, edgedBy, lawfulText, firstBytes, base256, wordOf}
+use Rattle.field.proofs.TextLoops.{length-first, first-at, length-padded, padded-in, padded-past, length-trimmed, trimmed-at, base-more}
 use Rattle.field.proofs.DigitLaws.{all-at, not-all, all-append}
 
 -- CLASSES: of blanks, of the first bytes
@@ -47,19 +47,6 @@ blank-is s e =
 
 pub not-blank-first : (s : List ℕ) → 0 < length s → eqb (getD s 0 0) 32 ≡ false → allOf Blank s ≡ false
 not-blank-first s l e = not-all Blank s 0 l e
-
--- THE A RULE by the first byte: a blank asks for blanks, and any other for bytes of the A set
-pub lawful-blank : (s : List ℕ) → getD s 0 0 ≡ 32 → allOf Blank s ≡ lawfulText s
-unfolding lawfulText
-lawful-blank s e = rw (eq-eqb (getD s 0 0) 32 e) (go (allOf Blank s) refl)
-  where
-    go : (b : Bool) → allOf Blank s ≡ b → b ≡ (allOf Text s && (b || false))
-    go true q = rw (ap (allOf Text) (blank-is s q) ∙ all-blanks Text refl (length s))
-    go false q = sym (and-false (allOf Text s))
-
-pub lawful-text : (s : List ℕ) → (getD s 0 0 ≡ 32 → ⊥) → allOf Text s ≡ lawfulText s
-unfolding lawfulText
-lawful-text s n = rw (ne-eqb (getD s 0 0) 32 n, or-true, bool.and-true)
 
 pub padded-first : (w : ℕ) (t : List ℕ) → 0 < w → 0 < length t → getD (padded w t) 0 0 ≡ getD t 0 0
 padded-first w t h l = padded-in w t 0 h l
@@ -173,6 +160,73 @@ first-bytes-le len s h = take-append-le len s (replicate len 0) h
 
 pub first-bytes-padded : (t : List ℕ) (w : ℕ) → length t ≤ w → firstBytes (length t) (padded w t) ≡ t
 first-bytes-padded t w h = first-bytes-le (length t) (padded w t) (rw length-padded h) ∙ take-padded w t h
+
+pub first-trimmed : (s : List ℕ) → firstBytes (length (trimmed s)) s ≡ trimmed s
+unfolding trimmed
+first-trimmed s = first-bytes-le (length (trimmed s)) s (trimmed-le s) ∙ ap (λ (n : ℕ). take n s) (length-trimmed s)
+
+-- WHAT A TEXT BEGINS AND ENDS IN
+pub edged-first : (b len : ℕ) (s : List ℕ) → 0 < len → edgedBy b (firstBytes len s) ≡ (eqb (getD s 0 0) b || eqb (getD s (len - 1) 0) b)
+unfolding edgedBy
+edged-first b len s h = rw (length-first, first-at len s 0 h, first-at len s (len - 1) (omega arith))
+
+pub edged-not : (b : ℕ) (t : List ℕ) → eqb (getD t 0 0) b ≡ false → eqb (getD t (length t - 1) 0) b ≡ false → edgedBy b t ≡ false
+unfolding edgedBy
+edged-not b t f l = rw (f, l)
+
+pub not-edged : (b : ℕ) (t : List ℕ) → edgedBy b t ≡ false → (eqb (getD t 0 0) b ≡ false) × (eqb (getD t (length t - 1) 0) b ≡ false)
+unfolding edgedBy
+not-edged b t e = neither _ _ e
+
+pub edged-none : (b : ℕ) (s : List ℕ) → eqb 0 b ≡ edgedBy b (firstBytes 0 s)
+unfolding edgedBy firstBytes
+edged-none b s = go (eqb 0 b)
+  where
+    go : (x : Bool) → x ≡ (x || x)
+    go true = refl
+    go false = refl
+
+-- THE A RULE by the first byte: a blank asks for blanks, and any other for bytes of the A set and a text that A0 does not edge
+pub lawful-blank : (s : List ℕ) → getD s 0 0 ≡ 32 → allOf Blank s ≡ lawfulText s
+unfolding lawfulText edgedBy
+lawful-blank s e = rw (eq-eqb (getD s 0 0) 32 e) (go (allOf Blank s) refl)
+  where
+    go : (b : Bool) → allOf Blank s ≡ b → b ≡ (allOf Text s && (b || false) && not (edgedBy 160 (trimmed s)))
+    go true q = rw (ap (allOf Text) (blank-is s q) ∙ all-blanks Text refl (length s), trimmed-blank s q)
+    go false q = rw (and-false (allOf Text s))
+
+pub lawful-text : (s : List ℕ) → (getD s 0 0 ≡ 32 → ⊥) → (allOf Text s && not (edgedBy 160 (trimmed s))) ≡ lawfulText s
+unfolding lawfulText
+lawful-text s n = rw (ne-eqb (getD s 0 0) 32 n, or-true, bool.and-true)
+
+-- PLAIN BYTES are of the A set, and none is A0
+plain-byte : (b : ℕ) → inClass Plain b ≡ true → inClass Text b ≡ true
+plain-byte b e = go (leb 32 b && leb b 126) e
+  where
+    go : (x : Bool) → (x || leb 161 b) ≡ true → (x || leb 160 b) ≡ true
+    go true q = refl
+    go false q = le-leb 160 b (omega (arith, leb-true 161 b q))
+
+plain-text : (s : List ℕ) → allOf Plain s ≡ true → allOf Text s ≡ true
+unfolding allOf each
+plain-text [] e = refl
+plain-text (b ∷ s) e =
+    let q = and-true (inClass Plain b) (each (inClass Plain) s) e in
+    true-and (inClass Text b) (each (inClass Text) s) (plain-byte b (q .0)) (plain-text s (q .1))
+
+plain-at : (s : List ℕ) (k : ℕ) → allOf Plain s ≡ true → eqb (getD s k 0) 160 ≡ false
+plain-at s k e = go (decLt k (length s)) (eqb (getD s k 0) 160) refl
+  where
+    go : Dec (k < length s) → (b : Bool) → eqb (getD s k 0) 160 ≡ b → b ≡ false
+    go (yes l) true q = absurd (true-false (sym (rw (eqb-true (getD s k 0) 160 q) at (all-at Plain s k e l))))
+    go (yes l) false q = refl
+    go (no l) b q = sym q ∙ rw (List·getD-eq-default s 0 {n = k} (omega arith)) refl
+
+pub plain-lawful : (s : List ℕ) → (getD s 0 0 ≡ 32 → ⊥) → allOf Plain s ≡ true → lawfulText s ≡ true
+unfolding trimmed
+plain-lawful s n e =
+    let t = all-take Plain (trimTo (length s) s) s e in
+    sym (lawful-text s n) ∙ rw (plain-text s e, edged-not 160 (trimmed s) (plain-at (trimmed s) 0 t) (plain-at (trimmed s) (length (trimmed s) - 1) t))
 
 -- A TEXT AS ONE NUMBER
 base256-same : (w : ℕ) (s u : List ℕ) → ((k : ℕ) → k < w → getD s k 0 < 256) → ((k : ℕ) → k < w → getD u k 0 < 256) → base256 w s ≡ base256 w u

@@ -1,12 +1,13 @@
 -- A text in a field: its bytes, then blanks.
 -- Assumes nothing.
-use Prim.Native.Nat.{ℕ, zero, suc, _+_, _*_}
-use mathlib.Core.Bool.{Bool, _&&_, _||_}
+use Prim.Native.Nat.{ℕ, zero, suc, _+_, _-_, _*_}
+use mathlib.Core.Bool.{Bool, not, _&&_, _||_}
 use mathlib.Core.List.{List, _++_}
 use lib.Dec.{eqb}
 use lib.ListN.{length, getD, take, replicate}
 use Rattle.laws.specs.Row.{pick}
-use Rattle.field.specs.Bytes.{blanks}
+use Rattle.field.specs.declared.class.Class.the-variants.{Blank, Text}
+use Rattle.field.specs.Bytes.{allOf, blanks}
 
 -- the text, then blanks, up to the width w
 unfoldable pub padded : ℕ → List ℕ → List ℕ
@@ -20,6 +21,14 @@ trimTo (suc k) s = pick (eqb (getD s k 0) 32) (trimTo k s) (suc k)
 -- a field's text: its bytes without the trailing blanks
 unfoldable pub trimmed : List ℕ → List ℕ
 trimmed s = take (trimTo (length s) s) s
+
+-- the text begins or ends in the byte
+unfoldable pub edgedBy : ℕ → List ℕ → Bool
+edgedBy b t = eqb (getD t 0 0) b || eqb (getD t (length t - 1) 0) b
+
+-- the A rule, of a field's bytes: they are of the A set, the first is not blank unless all are, and the text neither begins nor ends in A0
+unfoldable pub lawfulText : List ℕ → Bool
+lawfulText s = allOf Text s && (allOf Blank s || not (eqb (getD s 0 0) 32)) && not (edgedBy 160 (trimmed s))
 
 -- len bytes from the front; those past the end count as 0
 unfoldable pub firstBytes : ℕ → List ℕ → List ℕ

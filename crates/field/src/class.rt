@@ -1,13 +1,14 @@
 // Classes of bytes, and reads that are defined past the end.
 ghost use mathlib.Core.Path.{_≡_};
 ghost use lib.ListN.{getD};
-ghost use Rattle.field.specs.Bytes.{inClass, allOf, lawfulText};
+ghost use Rattle.field.specs.Bytes.{inClass, allOf};
 
 pub enum Class {
     Blank,
     Digit,
     Zero,
     Text,
+    Plain,
 }
 
 impl Class {
@@ -19,6 +20,7 @@ impl Class {
             Class::Digit => (48 <= b) & (b <= 57),
             Class::Zero => b == 48,
             Class::Text => ((32 <= b) & (b <= 126)) | (160 <= b),
+            Class::Plain => ((32 <= b) & (b <= 126)) | (161 <= b),
         }
     }
 
@@ -51,15 +53,4 @@ pub fn byte(t: &[u8], i: usize) -> u8
     ensures { λ r. ⌜ r ≡ getD (now (t .entry)) i 0 ⌝ }
 {
     if i < t.len() { t[i] } else { 0 }
-}
-
-// The A rule.
-pub fn lawful_text(t: &[u8]) -> bool
-    ensures { λ r. ⌜ r ≡ lawfulText (now (t .entry)) ⌝ }
-{
-    if byte(t, 0) == 32 {
-        Class::Blank.all(t)
-    } else {
-        Class::Text.all(t)
-    }
 }

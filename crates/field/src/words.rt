@@ -1,11 +1,12 @@
 // Texts: bytes, then blanks.
+use crate::class::Class;
 use crate::class::byte;
 ghost use mathlib.Core.Path.{_≡_};
 ghost use Prim.Native.Nat.{ℕ, _<_};
 ghost use lib.Dec.{ltb};
 ghost use lib.ListN.{length, getD};
 ghost use Rattle.laws.specs.Row.{pick};
-ghost use Rattle.field.specs.Texts.{padded, trimTo, firstBytes, notGiven, base256, wordOf, trimmed};
+ghost use Rattle.field.specs.Texts.{padded, trimTo, firstBytes, notGiven, base256, wordOf, trimmed, edgedBy, lawfulText};
 
 // The byte at a place of a text of len bytes with blanks after it.
 fn padded_byte(text: &[u8], len: usize, k: usize) -> u8
@@ -37,6 +38,27 @@ pub fn trimmed_len(part: &[u8]) -> usize
         k -= 1;
     }
     0
+}
+
+// Whether the first len bytes of the text begin or end in the byte; what isn't there counts as 0.
+pub fn edged_by(b: u8, text: &[u8], len: usize) -> bool
+    ensures { λ r. ⌜ r ≡ edgedBy b (firstBytes len (now (text .entry))) ⌝ }
+{
+    if len == 0 {
+        return 0 == b;
+    }
+    (byte(text, 0) == b) | (byte(text, len - 1) == b)
+}
+
+// The A rule.
+pub fn lawful_text(t: &[u8]) -> bool
+    ensures { λ r. ⌜ r ≡ lawfulText (now (t .entry)) ⌝ }
+{
+    if byte(t, 0) == 32 {
+        Class::Blank.all(t)
+    } else {
+        Class::Text.all(t) & !edged_by(160, t, trimmed_len(t))
+    }
 }
 
 // Whether the first len bytes of the text are NA or ND.

@@ -5,9 +5,9 @@ use mathlib.Core.Path.{_≡_, refl}
 use Rattle.laws.specs.Find.{firstOf, firstIndex, any}
 use Rattle.laws.specs.Nest.{run}
 use Rattle.laws.specs.Row.{row, each}
-use Rattle.field.specs.Bytes.{allOf, lawfulText}
+use Rattle.field.specs.Bytes.{allOf}
 use Rattle.field.specs.Digits.{digitsNumber, numberWritten}
-use Rattle.field.specs.Texts.{padded, trimTo, trimmed, firstBytes, notGiven, base256, wordOf}
+use Rattle.field.specs.Texts.{padded, trimTo, trimmed, edgedBy, lawfulText, firstBytes, notGiven, base256, wordOf}
 use Rattle.record.specs.declared.reason.Finding.the-variants.{Fine}
 use Rattle.record.specs.Table.{colAt, formAt, widthAt, mustAt, backAt, aheadAt, domainAt, ownAt, offsetAt, whichOf, targetOf}
 use Rattle.record.specs.Files.{filesOf}
@@ -32,7 +32,7 @@ use Rattle.judge.specs.Cases.{ascii, Case, Outcome, outcome, table}
 -- THE THEOREM
 pub cases : map (λ (c : Case × Outcome). outcome (c .0)) table ≡ map (λ (c : Case × Outcome). c .1) table
 unfolding
-    ascii firstOf firstIndex any run row each allOf lawfulText digitsNumber numberWritten padded trimTo trimmed firstBytes notGiven base256 wordOf
+    ascii firstOf firstIndex any run row each allOf edgedBy lawfulText digitsNumber numberWritten padded trimTo trimmed firstBytes notGiven base256 wordOf
     colAt formAt widthAt mustAt backAt aheadAt domainAt ownAt offsetAt whichOf filesOf countOf recordOf textOf
     breaks10 breaks11 breaks20 breaks21 notNumber notText breaks22 breaks23 missingIn partnersBlank breaks24 inDomain outside breaks25
     atPlace shapeBreaks recordBreaks fieldBreaksAt fieldBreaks shapeFinding fieldsFinding saidAs saidIn

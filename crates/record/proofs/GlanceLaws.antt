@@ -18,10 +18,10 @@ use Rattle.laws.specs.Row.{pick, row, each}
 use Rattle.laws.proofs.FindLaws.{true-false, first-none, hit-false}
 use Rattle.laws.proofs.RowLaws.{and-true, Falses, end, more, falses}
 use Rattle.field.specs.declared.class.Class.{Class}
-use Rattle.field.specs.declared.class.Class.the-variants.{Blank, Digit, Text}
-use Rattle.field.specs.Bytes.{allOf, lawfulText}
-use Rattle.field.specs.Texts.{trimmed, notGiven}
-use Rattle.field.proofs.TextLaws.{lawful-blank, lawful-text, not-blank-first, trimmed-first, trimmed-some, padded-trimmed}
+use Rattle.field.specs.declared.class.Class.the-variants.{Blank, Digit, Plain}
+use Rattle.field.specs.Bytes.{allOf}
+use Rattle.field.specs.Texts.{trimmed, trimTo, edgedBy, lawfulText, notGiven}
+use Rattle.field.proofs.TextLaws.{lawful-blank, plain-lawful, not-blank-first, trimmed-first, trimmed-some, padded-trimmed}
 use Rattle.field.proofs.TextLoops.{padded-past}
 use Rattle.record.specs.declared.kind.Kind.{Kind}
 use Rattle.record.specs.declared.kind.Form.{Form}
@@ -92,18 +92,18 @@ full-some c t e =
     not-blank-first t (some-bytes t l) (ne-eqb (getD t 0 0) 32 (λ q. omega arith))
 
 -- and keeps the rule of its form, by whether that is an N field's
-full-number : (n : Bool) (t : List ℕ) → full (pick n Digit Text) t ≡ true → (n && not (allOf Blank t) && not (allOf Digit t)) ≡ false
+full-number : (n : Bool) (t : List ℕ) → full (pick n Digit Plain) t ≡ true → (n && not (allOf Blank t) && not (allOf Digit t)) ≡ false
 full-number true t e = rw (full-all Digit t e, bool.and-false)
 full-number false t e = refl
 
-full-text : (n : Bool) (t : List ℕ) → full (pick n Digit Text) t ≡ true → (not n && not (lawfulText t)) ≡ false
+full-text : (n : Bool) (t : List ℕ) → full (pick n Digit Plain) t ≡ true → (not n && not (lawfulText t)) ≡ false
 full-text true t e = refl
 full-text false t e =
-    let l = full-first Text t e in
-    rw (← lawful-text t (λ q. omega arith), full-all Text t e)
+    let l = full-first Plain t e in
+    rw (plain-lawful t (λ q. omega arith) (full-all Plain t e))
 
 blank-text : (t : List ℕ) → allOf Blank t ≡ true → lawfulText t ≡ true
-unfolding allOf lawfulText each
+unfolding allOf lawfulText edgedBy trimmed trimTo each
 blank-text [] e = refl
 blank-text (b ∷ t) e = sym (lawful-blank (b ∷ t) (eqb-true b 32 (and-true _ _ e .0))) ∙ e
 
@@ -134,7 +134,7 @@ module _ (s : List ℕ) (k : Kind) (f : ℕ) (l : 0 < f) (bar : breaks21 s k f �
 
   -- where it is full, no NA and no ND, and not outside its domain,
   pub full-clean :
-      (form : Form) (domain : Domain) → formAt k f ≡ form → domainAt k f ≡ domain → full (pick (isN form) Digit Text) (textOf s k f) ≡ true
+      (form : Form) (domain : Domain) → formAt k f ≡ form → domainAt k f ≡ domain → full (pick (isN form) Digit Plain) (textOf s k f) ≡ true
       → (isCode form && notGiven (trimmed (textOf s k f))) ≡ false → outside form domain (textOf s k f) (textOf s k (f + 1)) ≡ false → Clean s k f
   unfolding breaks22 breaks23 breaks24 breaks25 notNumber notText missingIn
   full-clean form domain q d h given within =
@@ -211,7 +211,7 @@ module _ (s : List ℕ) (k : Kind) (f : ℕ) (c : Col) (q : colAt k f ≡ c) whe
 
   -- a field with no partners is clean where it is full or blank, and may be so
   pub alone-clean : 0 < f → breaks21 s k f ≡ false → required (c .must) ≡ false → c .back + c .ahead ≡ 0 → isCode (c .form) ≡ false
-      → ((t next : List ℕ) → outside (c .form) (c .domain) t next ≡ false) → fullOrBlank (pick (isN (c .form)) Digit Text) (cut s (offsetAt k f) (c .width)) ≡ true → Clean s k f
+      → ((t next : List ℕ) → outside (c .form) (c .domain) t next ≡ false) → fullOrBlank (pick (isN (c .form)) Digit Plain) (cut s (offsetAt k f) (c .width)) ≡ true → Clean s k f
   unfolding fullOrBlank
   alone-clean l bar must partners given within h =
       either _ _
@@ -233,7 +233,7 @@ seen-none s k e = absurd (true-false (sym e))
 
 -- the end is place 0
 end-clean : (s : List ℕ) (k : Kind) → endAt s (lengthOf k - 2) ≡ true → Clean s k 0
-unfolding breaks20 breaks21 breaks22 breaks23 breaks24 breaks25 notNumber notText missingIn partnersBlank inDomain outside textOf formAt widthAt mustAt backAt aheadAt domainAt colAt allOf lawfulText each row endAt
+unfolding breaks20 breaks21 breaks22 breaks23 breaks24 breaks25 notNumber notText missingIn partnersBlank inDomain outside textOf formAt widthAt mustAt backAt aheadAt domainAt colAt allOf lawfulText edgedBy trimmed trimTo each row endAt
 end-clean s k h =
     let e : lengthOf k - 2 + 1 ≡ lengthOf k - 1 = omega (arith, sane k) in
     clean s k 0 (rw (ap not (rw e at h))) refl refl refl refl refl

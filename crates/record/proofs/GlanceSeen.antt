@@ -10,7 +10,7 @@ use lib.Dec.{ltb}
 use lib.ListN.{getD, take, drop}
 use lib.Seq.{getD-take, getD-drop, take-take, drop-drop}
 use Rattle.laws.proofs.RowLaws.{and-true}
-use Rattle.field.specs.declared.class.Class.the-variants.{Digit, Text}
+use Rattle.field.specs.declared.class.Class.the-variants.{Digit, Plain}
 use Rattle.record.specs.declared.kind.Kind.{Kind}
 use Rattle.record.specs.declared.kind.Form.the-variants.{Words, Code, Number}
 use Rattle.record.specs.declared.kind.Domain.the-variants.{Any, ObjectType, PlusMinus}
@@ -46,14 +46,14 @@ module _ (s : List ℕ) (k : Kind) (n : ℕ) {a b : Bool} (past : Seen s k n a) 
       let h = and-true _ _ (sym e ∙ y) in
       alone-clean s k n _ q (past .some) (col-bar s k n _ q (h .1) refl) refl refl refl (λ t next. refl) (h .0))
 
-  pub seen-words : (w : ℕ) {free : Bool} → colAt k n ≡ alone Words w never Any Free false free → b ≡ mayAt Text s (offsetAt k n) w → Seen s k (n + 1) (a && b)
+  pub seen-words : (w : ℕ) {free : Bool} → colAt k n ≡ alone Words w never Any Free false free → b ≡ mayAt Plain s (offsetAt k n) w → Seen s k (n + 1) (a && b)
   unfolding mayAt inDomain outside
   seen-words w q e = seen-one (λ y.
       let h = and-true _ _ (sym e ∙ y) in
       alone-clean s k n _ q (past .some) (col-bar s k n _ q (h .1) refl) refl refl refl (λ t next. refl) (h .0))
 
   -- the same as the last field,
-  pub seen-last : (w : ℕ) {free : Bool} → colAt k n ≡ alone Words w never Any Free false free → ltb n (fieldsOf k) ≡ false → b ≡ fullOrBlank Text (cut s (offsetAt k n) w) → Seen s k (n + 1) (a && b)
+  pub seen-last : (w : ℕ) {free : Bool} → colAt k n ≡ alone Words w never Any Free false free → ltb n (fieldsOf k) ≡ false → b ≡ fullOrBlank Plain (cut s (offsetAt k n) w) → Seen s k (n + 1) (a && b)
   unfolding inDomain outside
   seen-last w q l e = seen-one (λ y.
       alone-clean s k n _ q (past .some) (last-bar s k n l) refl refl refl (λ t next. refl) (sym e ∙ y))
@@ -65,7 +65,7 @@ module _ (s : List ℕ) (k : Kind) (n : ℕ) {a b : Bool} (past : Seen s k n a) 
       let h = and-true _ _ (sym e ∙ y) in
       let h' = and-true _ _ (h .0) in
       let t = col-text s k n _ q in
-      full-clean s k n (past .some) (col-bar s k n _ q (h .1) refl) Code Any (col-form s k n _ q) (col-domain s k n _ q) (rw t (h' .0)) (rw t (either _ _ (no-n _ (full-some Text _ (h' .0))) (longer _ (omega (arith, bar-length s (offsetAt k n) 7 (h .1)))) (h' .1))) refl)
+      full-clean s k n (past .some) (col-bar s k n _ q (h .1) refl) Code Any (col-form s k n _ q) (col-domain s k n _ q) (rw t (h' .0)) (rw t (either _ _ (no-n _ (full-some Plain _ (h' .0))) (longer _ (omega (arith, bar-length s (offsetAt k n) 7 (h .1)))) (h' .1))) refl)
 
   pub seen-tipo : colAt k n ≡ single Words 1 always ObjectType Free → b ≡ tipoAt s (offsetAt k n) 1 → Seen s k (n + 1) (a && b)
   unfolding tipoAt inDomain outside
@@ -83,7 +83,7 @@ module _ (s : List ℕ) (k : Kind) (n : ℕ) {a b : Bool} (past : Seen s k n a) 
       let c = single Words 1 never PlusMinus Free in
       let t = col-text s k n c q in
       either _ _
-      (λ z. let h = and-true (full Text (cut s (offsetAt k n) 1)) (isSignByte (getD (cut s (offsetAt k n) 1) 0 0)) z in full-clean s k n (past .some) (last-bar s k n l) Words PlusMinus (col-form s k n c q) (col-domain s k n c q) (rw t (h .0)) refl (rw (t, h .1)))
+      (λ z. let h = and-true (full Plain (cut s (offsetAt k n) 1)) (isSignByte (getD (cut s (offsetAt k n) 1) 0 0)) z in full-clean s k n (past .some) (last-bar s k n l) Words PlusMinus (col-form s k n c q) (col-domain s k n c q) (rw t (h .0)) refl (rw (t, h .1)))
       (λ z. blank-clean s k n (past .some) (last-bar s k n l) (col-must s k n c q) (rw t z) (partners-none s k n (rw (col-back s k n c q, col-ahead s k n c q)) ∙ rw t z))
       (sym e ∙ y))
 

@@ -8,8 +8,8 @@ use lib.ListN.{length, getD}
 use lib.Dec.{ltb, eqb}
 use Rattle.laws.specs.Row.{row, each}
 use Rattle.field.specs.declared.class.Class.the-variants.{Blank, Digit, Zero}
-use Rattle.field.specs.Bytes.{allOf, lawfulText}
-use Rattle.field.specs.Texts.{trimmed, notGiven}
+use Rattle.field.specs.Bytes.{allOf}
+use Rattle.field.specs.Texts.{trimmed, lawfulText, notGiven}
 use Rattle.record.specs.declared.kind.Kind.{Kind}
 use Rattle.record.specs.declared.kind.Form.{Form}
 use Rattle.record.specs.declared.kind.Domain.{Domain}

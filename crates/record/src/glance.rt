@@ -54,7 +54,7 @@ fn code(rec: &[u8], o: usize) -> bool
     ensures { λ r. ⌜ r ≡ codeAt (now (rec .entry)) o 7 ⌝ }
 {
     let t = part(rec, o, 7);
-    is_full(Class::Text, t) & ((byte(t, 0) != 78) | (byte(t, 2) != 32)) & has_bar(rec, o + 7)
+    is_full(Class::Plain, t) & ((byte(t, 0) != 78) | (byte(t, 2) != 32)) & has_bar(rec, o + 7)
 }
 
 // a catalogue TIPO.
@@ -64,7 +64,7 @@ fn tipo(rec: &[u8], o: usize) -> bool
 {
     let t = part(rec, o, 1);
     let b = byte(t, 0);
-    is_full(Class::Text, t) & ((b == 80) | (b == 88) | (b == 76) | (b == 84)) & has_bar(rec, o + 1)
+    is_full(Class::Plain, t) & ((b == 80) | (b == 88) | (b == 76) | (b == 84)) & has_bar(rec, o + 1)
 }
 
 // A sense, which is a record's last field: there is no bar after it.
@@ -72,7 +72,7 @@ fn is_sense(t: &[u8]) -> bool
     ensures { λ r. ⌜ r ≡ senseIn (now (t .entry)) ⌝ }
 {
     let b = byte(t, 0);
-    (is_full(Class::Text, t) & ((b == 43) | (b == 45))) | Class::Blank.every(t)
+    (is_full(Class::Plain, t) & ((b == 43) | (b == 45))) | Class::Blank.every(t)
 }
 
 // A sign; next is the number's text, which isn't zero after a minus.
@@ -80,7 +80,7 @@ fn is_sign(t: &[u8], next: &[u8]) -> bool
     ensures { λ r. ⌜ r ≡ signIn (now (t .entry)) (now (next .entry)) ⌝ }
 {
     let b = byte(t, 0);
-    is_full(Class::Text, t) & ((b == 43) | ((b == 45) & !Class::Zero.every(next)))
+    is_full(Class::Plain, t) & ((b == 43) | ((b == 45) & !Class::Zero.every(next)))
 }
 
 // A sign, a bar and a number of w digits,
@@ -145,8 +145,8 @@ fn catalogo(rec: &[u8]) -> bool
     ends(rec, 131)
         & code(rec, 0)
         & tipo(rec, 8)
-        & may(Class::Text, rec, 10, 60)
-        & is_full_or_blank(Class::Text, part(rec, 71, 60))
+        & may(Class::Plain, rec, 10, 60)
+        & is_full_or_blank(Class::Plain, part(rec, 71, 60))
 }
 
 fn ob_pun(rec: &[u8]) -> bool
@@ -160,7 +160,7 @@ fn ob_pun(rec: &[u8]) -> bool
         & may(Class::Digit, rec, 11, 10)
         & may(Class::Digit, rec, 22, 10)
         & code(rec, 33)
-        & may(Class::Text, rec, 41, 60)
+        & may(Class::Plain, rec, 41, 60)
         & may(Class::Digit, rec, 102, 5)
         & may(Class::Digit, rec, 108, 3)
         & position(rec, 112)
@@ -176,7 +176,7 @@ fn ob_tex(rec: &[u8]) -> bool
         & need(rec, 0, 10)
         & may(Class::Digit, rec, 11, 10)
         & code(rec, 22)
-        & may(Class::Text, rec, 30, 60)
+        & may(Class::Plain, rec, 30, 60)
         & need(rec, 91, 3)
         & may(Class::Digit, rec, 95, 3)
         & may(Class::Digit, rec, 99, 5)
@@ -194,7 +194,7 @@ fn ob_lin(rec: &[u8]) -> bool
         & need(rec, 0, 10)
         & may(Class::Digit, rec, 11, 10)
         & code(rec, 22)
-        & may(Class::Text, rec, 30, 60)
+        & may(Class::Plain, rec, 30, 60)
         & (position(rec, 91) | nowhere(rec, 91))
 }
 
@@ -230,7 +230,7 @@ fn nodo(rec: &[u8]) -> bool
     if rec.len() != 50 {
         return false;
     }
-    ends(rec, 48) & need(rec, 0, 10) & may(Class::Text, rec, 11, 1) & position(rec, 13)
+    ends(rec, 48) & need(rec, 0, 10) & may(Class::Plain, rec, 11, 1) & position(rec, 13)
 }
 
 // Whether a glance tells that nothing is broken in a record.

@@ -5,7 +5,7 @@ use crate::kind::Form;
 use crate::kind::Kind;
 use field::class::Class;
 use field::class::byte;
-use field::class::lawful_text;
+use field::words::lawful_text;
 use field::words::not_given;
 use field::words::trimmed_len;
 ghost use mathlib.Core.Path.{_≡_};

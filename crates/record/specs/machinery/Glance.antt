@@ -7,7 +7,7 @@ use mathlib.Core.List.{List}
 use lib.Dec.{ltb, eqb}
 use lib.ListN.{getD, take, drop}
 use Rattle.field.specs.declared.class.Class.{Class}
-use Rattle.field.specs.declared.class.Class.the-variants.{Blank, Digit, Zero, Text}
+use Rattle.field.specs.declared.class.Class.the-variants.{Blank, Digit, Zero, Plain}
 use Rattle.field.specs.Bytes.{allOf}
 use Rattle.record.specs.Rules.{isSignByte}
 
@@ -35,21 +35,21 @@ unfoldable pub mayAt : Class → List ℕ → ℕ → ℕ → Bool
 mayAt c s o w = fullOrBlank c (cut s o w) && barAt s (o + w)
 
 unfoldable pub codeAt : List ℕ → ℕ → ℕ → Bool
-codeAt s o w = full Text (cut s o w) && (not (eqb (getD (cut s o w) 0 0) 78) || not (eqb (getD (cut s o w) 2 0) 32)) && barAt s (o + w)
+codeAt s o w = full Plain (cut s o w) && (not (eqb (getD (cut s o w) 0 0) 78) || not (eqb (getD (cut s o w) 2 0) 32)) && barAt s (o + w)
 
 unfoldable pub tipoAt : List ℕ → ℕ → ℕ → Bool
 tipoAt s o w =
-    full Text (cut s o w)
+    full Plain (cut s o w)
     && (eqb (getD (cut s o w) 0 0) 80 || eqb (getD (cut s o w) 0 0) 88 || eqb (getD (cut s o w) 0 0) 76 || eqb (getD (cut s o w) 0 0) 84)
     && barAt s (o + w)
 
 -- a sense, which is a record's last field
 unfoldable pub senseIn : List ℕ → Bool
-senseIn t = full Text t && isSignByte (getD t 0 0) || allOf Blank t
+senseIn t = full Plain t && isSignByte (getD t 0 0) || allOf Blank t
 
 -- a sign; next is the number's text
 unfoldable pub signIn : List ℕ → List ℕ → Bool
-signIn t next = full Text t && (eqb (getD t 0 0) 43 || eqb (getD t 0 0) 45 && not (allOf Zero next))
+signIn t next = full Plain t && (eqb (getD t 0 0) 43 || eqb (getD t 0 0) 45 && not (allOf Zero next))
 
 -- a sign, a bar and a number of w digits; and all blank
 unfoldable pub signedAt : List ℕ → ℕ → ℕ → Bool

@@ -17,23 +17,20 @@ part-requires c κs = search needs
 all-requires : tie.Need-all-requires
 all-requires c κs = search needs
 
-byte-requires : tie.Need-byte-requires
-byte-requires c κs = search needs
+edged-by-requires : tie.Need-edged-by-requires
+edged-by-requires c κs = search needs
 
-sub-byte : tie.Need-sub-byte
-sub-byte c = search needs
-
-byte-requires-2 : tie.Need-byte-requires-2
-byte-requires-2 c κs = search needs
+edged-by-requires-2 : tie.Need-edged-by-requires-2
+edged-by-requires-2 c κs = search needs
 
 returns-2 : tie.Need-returns-2
 returns-2 c =
     let e = c .before .before .before .before in
     let a = e .before .before .args in
-    text-short (a .w) (a .len) (now (a .text)) (e .if1 .left) (e .before .before .pre .1)
-    (c .before .before .before .part .ensures) (c .before .before .all .ensures) (c .before .byte .ensures) (c .byte2 .ensures)
+    text-short (a .w) (a .len) (now (a .text)) (e .if1 .left) (e .before .before .pre)
+    (c .before .before .before .part .ensures) (c .before .before .all .ensures) (c .before .edged-by .ensures) (c .edged-by2 .ensures)
 
 pub bad-text-spec : {M : Type 1} → statement M
 bad-text-spec =
     tie.close
-    (tie.spec returns part-requires all-requires byte-requires sub-byte byte-requires-2 returns-2)
+    (tie.spec returns part-requires all-requires edged-by-requires edged-by-requires-2 returns-2)

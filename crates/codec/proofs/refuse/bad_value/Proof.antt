@@ -28,10 +28,9 @@ slice-aggregate-bad-text c = search needs
 bad-text-requires : tie.Need-bad-text-requires
 bad-text-requires c κs =
     let a = c .before .before .before .before .args in
-    let some = c .before .if1 .left in
     let l : length (a .v .text) ≡ 60 = search needs in
     let p = c .before .before .before .before .pre in
-    (omega arith, omega arith)
+    omega arith
 
 returns-2 : tie.Need-returns-2
 returns-2 c = search needs

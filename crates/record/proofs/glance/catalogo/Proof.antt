@@ -2,7 +2,7 @@
 -- Assumes nothing.
 use mathlib.Core.Path.{refl, ap, _∙_}
 use denote.Ref.{now}
-use Rattle.field.specs.declared.class.Class.the-variants.{Text}
+use Rattle.field.specs.declared.class.Class.the-variants.{Plain}
 use Rattle.record.specs.declared.kind.Kind.the-variants.{Catalogo}
 use Rattle.record.specs.Table.{colAt, offsetAt}
 use Rattle.record.specs.machinery.Glance.{fullOrBlank}
@@ -42,7 +42,7 @@ returns-2 c =
     let p1 = seen-code s Catalogo 1 p0 refl (f1 .code .ensures) in
     let p2 = seen-tipo s Catalogo 2 p1 refl (f2 .tipo .ensures) in
     let p3 = seen-words s Catalogo 3 p2 60 refl (f3 .may .ensures) in
-    seen-fine s Catalogo (seen-last s Catalogo 4 p3 60 refl refl (c .is-full-or-blank .ensures ∙ ap (fullOrBlank Text) (c .before .part .ensures)))
+    seen-fine s Catalogo (seen-last s Catalogo 4 p3 60 refl refl (c .is-full-or-blank .ensures ∙ ap (fullOrBlank Plain) (c .before .part .ensures)))
 
 pub catalogo-spec : {M : Type 1} → statement M
 catalogo-spec =
