@@ -1012,6 +1012,30 @@ static void check_texts(void)
     CHECK(refuses(write_exactly(CATALOGO, &v, FIELDS, 133), CANOPYRAIL_BAD_TEXT, 2));
 }
 
+/* The no-break blank A0 may stand within a text, and neither begin nor end it. */
+static void check_no_break_blanks(void)
+{
+    static const struct {
+        size_t field;
+        const char *text;
+        uint64_t refused;
+    } tries[] = {
+        {3, "\xA0" "a", CANOPYRAIL_BAD_TEXT}, {3, "a\xA0", CANOPYRAIL_BAD_TEXT}, {3, "\xA0", CANOPYRAIL_BAD_TEXT},
+        {3, "a\xA0" "a", 0},                  {3, "\xA1", 0},                    {1, "NA\xA0", CANOPYRAIL_BAD_TEXT},
+        {1, "NA\xA0" "A", 0},                 {2, "\xA0", CANOPYRAIL_BAD_TEXT},  {2, "\xA1", CANOPYRAIL_UNFIT},
+    };
+
+    for (size_t i = 0; i < sizeof tries / sizeof *tries; i++) {
+        canopyrail_values v = no_values();
+        uint64_t answer;
+        give_text(&v, 1, "0100000");
+        give_text(&v, 2, "L");
+        give_text(&v, tries[i].field, tries[i].text);
+        answer = write_exactly(CATALOGO, &v, FIELDS, 133);
+        CHECK(tries[i].refused ? refuses(answer, tries[i].refused, tries[i].field) : answer == 0);
+    }
+}
+
 static void check_all(void)
 {
     check_header();
@@ -1033,6 +1057,7 @@ static void check_all(void)
     check_write_refusals();
     check_short_arrays();
     check_texts();
+    check_no_break_blanks();
 }
 
 int main(void)

@@ -288,7 +288,7 @@ static size_t change_record(uint8_t *data, size_t size, unsigned int *seed)
         field = 1 + next(seed) % canopyrail_fields(i + 1);
         from = canopyrail_offset(i + 1, field);
         width = canopyrail_width(i + 1, field);
-        switch (next(seed) % 8) {
+        switch (next(seed) % 9) {
         case 0: memmove(one, other, length); break;
         case 1: memmove(one + from, other + from, width); break;
         case 2: memset(one + from, ' ', width); break;
@@ -296,6 +296,7 @@ static size_t change_record(uint8_t *data, size_t size, unsigned int *seed)
         case 4: one[from + next(seed) % width] = (uint8_t)('0' + next(seed) % 10); break;
         case 5: one[from] = (uint8_t)"+- PXLT|"[next(seed) % 8]; break;
         case 6: LLVMFuzzerMutate(one + from, width, width); break;
+        case 7: one[from + next(seed) % width] = 0xA0; break;
         default: one[next(seed) % length] = (uint8_t)next(seed); break;
         }
         return size;

@@ -38,7 +38,7 @@ extern "C" {
 /* The version of this header, and as one number; canopyrail_version() tells the archive's. */
 #define CANOPYRAIL_VERSION_MAJOR 0
 #define CANOPYRAIL_VERSION_MINOR 2
-#define CANOPYRAIL_VERSION_PATCH 1
+#define CANOPYRAIL_VERSION_PATCH 2
 #define CANOPYRAIL_VERSION (CANOPYRAIL_VERSION_MAJOR * 10000 + CANOPYRAIL_VERSION_MINOR * 100 + CANOPYRAIL_VERSION_PATCH)
 
 /* How many files a delivery has, and their numbers. */
@@ -76,7 +76,8 @@ enum canopyrail_reason_number {
     CANOPYRAIL_BAD_END = 20,          /* the record doesn't end in 0D 0A: field 0 */
     CANOPYRAIL_NO_BAR = 21,           /* no bar (7C) after the field */
     CANOPYRAIL_NOT_NUMBER = 22,       /* an N field is neither all digits nor all blanks */
-    CANOPYRAIL_NOT_TEXT = 23,         /* an A field has a byte outside 20-7E and A0-FF, or begins with a blank and isn't all blank */
+    CANOPYRAIL_NOT_TEXT = 23,         /* an A field has a byte outside 20-7E and A0-FF, begins with a blank and isn't all blank, or its
+                                         text, without the blanks after it, begins or ends in the no-break blank A0 */
     CANOPYRAIL_MISSING = 24,          /* missing where it may not be, or blank while its partner isn't */
     CANOPYRAIL_OUTSIDE = 25,          /* outside its domain; - before zero is told at the sign */
     CANOPYRAIL_SAME_KEY = 30,         /* the key equals that of an earlier record of the file; other: that record */
@@ -95,7 +96,7 @@ enum canopyrail_reason_number {
     CANOPYRAIL_NO_FILE = 60,          /* the file number is outside 1 to 7: field 0 */
     CANOPYRAIL_SHORT_ROOM = 61,       /* the lent room is too short: field 0 */
     CANOPYRAIL_TOO_LARGE = 62,        /* writing: the value is too large for its digits */
-    CANOPYRAIL_BAD_TEXT = 63,         /* writing: the text is too long, has a byte outside the A set, or begins or ends in a blank */
+    CANOPYRAIL_BAD_TEXT = 63,         /* writing: the text is too long, has a byte outside the A set, or begins or ends in a blank or A0 */
     CANOPYRAIL_NOT_GIVEN = 64,        /* writing: missing where it may not be, by the partner rule too */
     CANOPYRAIL_UNFIT = 65,            /* writing: outside its domain */
     CANOPYRAIL_NO_SUCH_RECORD = 66,   /* reading: the record number is 0 or above the whole records in hand: field 0 */

@@ -7,7 +7,8 @@ writes FOLDER/data/ (files of fixed records), FOLDER/args (the names, one a
 line, in the order to be read) and FOLDER/stdout (the expected output).
 
 Made from documents alone: document 01 (requirements and rules), its readings
-(R01 to R16), and source 000 (MIGRA v1, sections 5.1 to 5.6 and chapter 10).
+(R01 to R16), document 02's request W-202 (a text neither begins nor ends in
+byte A0), and source 000 (MIGRA v1, sections 5.1 to 5.6 and chapter 10).
 No code of the project was read.
 
 The first character of a data file's name is the MIGRA file number.
@@ -127,6 +128,10 @@ def damaged(kind, field):
         if not (0x20 <= b <= 0x7E or 0xA0 <= b <= 0xFF):
             return 23
     if field[0] == 0x20 and not blank(field):
+        return 23
+    # W-202: the text is the field without its trailing blanks
+    text = field.rstrip(b' ')
+    if text[:1] == b'\xa0' or text[-1:] == b'\xa0':
         return 23
     return 0
 
@@ -862,8 +867,9 @@ def text_damage(d, no, code):
     for b in (0x1F, 0x7F, 0x80, 0x9F):
         d.put('%02X in text %d' % (b, no), (23, no), {no: d.byte(no, at, b)})
     d.put('7F at last byte of text %d' % no, (23, no), {no: d.byte(no, -1, 0x7F)})
-    for b in (0x7E, 0xA0, 0xFF):
+    for b in (0x7E, 0xA0, 0xA1, 0xFF):
         d.put('%02X in text %d' % (b, no), None, {no: d.byte(no, at, b)})
+    a0_damage(d, no)
     if code:
         # CODIGO (R08)
         d.put('CODIGO NA', (24, no), {no: b'NA'})
@@ -871,14 +877,38 @@ def text_damage(d, no, code):
         d.put('CODIGO blank and NA', (23, no), {no: b' NA'})
         d.put('CODIGO na', None, {no: b'na'})
         d.put('CODIGO N.D.', None, {no: b'N.D.'})
-        d.put('CODIGO NA and A0', None, {no: b'NA\xa0'})
+        d.put('CODIGO NA and A0', (23, no), {no: b'NA\xa0'})
+        d.put('CODIGO ND and A0', (23, no), {no: b'ND\xa0\xa0'})
+        d.put('CODIGO A0 and NA', (23, no), {no: b'\xa0NA'})
+        d.put('CODIGO NA, A0 and A', None, {no: b'NA\xa0A'})
+        d.put('CODIGO NA and A1', None, {no: b'NA\xa1'})
     else:
         # NA and ND are texts of their own; a text may fill the field
         d.put('text %d NA' % no, None, {no: b'NA'})
         d.put('text %d ND' % no, None, {no: b'ND'})
-        # A0 is no blank: it may begin and end a text (R07)
-        d.put('text %d between A0' % no, None, {no: b'\xa0x\xa0'})
+        d.put('text %d NA and A0' % no, (23, no), {no: b'NA\xa0'})
         d.put('text %d all bars' % no, None, {no: b'|' * w})
+
+
+def a0_damage(d, no):
+    """W-202: A0 first, last, before trailing blanks, alone; and near misses.
+    A0 is no blank (R07), so a field of it isn't missing."""
+    w = d.width(no)
+    d.put('A0 first in text %d' % no, (23, no), {no: d.byte(no, 0, 0xA0)})
+    d.put('A1 first in text %d' % no, None, {no: d.byte(no, 0, 0xA1)})
+    d.put('A0 last in text %d' % no, (23, no), {no: b'x' * (w - 1) + b'\xa0'})
+    d.put('A1 last in text %d' % no, None, {no: b'x' * (w - 1) + b'\xa1'})
+    d.put('A0 last but one in text %d' % no, None,
+          {no: b'x' * (w - 2) + b'\xa0x'})
+    d.put('A0 before blanks in text %d' % no, (23, no), {no: b'x\xa0'})
+    d.put('A1 before blanks in text %d' % no, None, {no: b'x\xa1'})
+    d.put('text %d between A0' % no, (23, no), {no: b'\xa0x\xa0'})
+    d.put('A0 between in text %d' % no, None, {no: b'x\xa0x'})
+    d.put('A0 and blanks between in text %d' % no, None, {no: b'x \xa0 x'})
+    d.put('A0 alone in text %d' % no, (23, no), {no: b'\xa0'})
+    d.put('A1 alone in text %d' % no, None, {no: b'\xa1'})
+    d.put('text %d all A0' % no, (23, no), {no: b'\xa0' * w})
+    d.put('blank and A0 in text %d' % no, (23, no), {no: b' \xa0'})
 
 
 def more_codes(d, no):
@@ -886,7 +916,6 @@ def more_codes(d, no):
     d.put('CODIGO NAD', None, {no: b'NAD'})
     d.put('CODIGO N A', None, {no: b'N A'})
     d.put('CODIGO NA NA', None, {no: b'NA NA'})
-    d.put('CODIGO all A0', None, {no: b'\xa0' * 7})
 
 
 def sign_damage(d, first):
@@ -895,8 +924,9 @@ def sign_damage(d, first):
     for sign_no in (first, first + 2, first + 4):
         number_no = sign_no + 1
         zeros = b'0' * d.width(number_no)
-        for s in (b'*', b'0', b'\xa0'):
+        for s in (b'*', b'0', b'\xa1'):
             d.put('sign %r at %d' % (s, sign_no), (25, sign_no), {sign_no: s})
+        d.put('sign A0 at %d' % sign_no, (23, sign_no), {sign_no: b'\xa0'})
         d.put('- before zero at %d' % sign_no, (25, sign_no),
               {sign_no: b'-', number_no: zeros})
         d.put('+ before zero at %d' % sign_no, None,
@@ -915,6 +945,7 @@ SIGN_BY_NUMBER = {
     b'-':         ('24 n',   '25 s',   'lawful', '22 n'),
     b'*':         ('25 s',   '25 s',   '25 s',   '25 s'),
     b'\x9f':      ('23 s',   '23 s',   '23 s',   '23 s'),
+    b'\xa0':      ('23 s',   '23 s',   '23 s',   '23 s'),
 }
 
 
@@ -975,9 +1006,9 @@ def damage_1():
     common_damage(d)
     for t in b'PXL':
         d.put('TIPO %c' % t, None, {2: bytes([t])})
-    for t in (b'C', b'S', b'p', b'|', b'?', b'\xa0'):
+    for t in (b'C', b'S', b'p', b'|', b'?', b'\xa1'):
         d.put('TIPO %r' % t, (25, 2), {2: t})
-    for t in (b'\x9f', b'\x7f'):
+    for t in (b'\x9f', b'\x7f', b'\xa0'):
         d.put('TIPO %r' % t, (23, 2), {2: t})
     text_damage(d, 1, True)
     more_codes(d, 1)
@@ -1053,9 +1084,9 @@ def damage_5():
     common_damage(d)
     text_damage(d, 5, True)
     d.put('sense +', None, {8: b'+'})
-    for s in (b'*', b'0', b'|', b'\xa0'):
+    for s in (b'*', b'0', b'|', b'\xa1'):
         d.put('sense %r' % s, (25, 8), {8: s})
-    for s in (b'\x1f', b'\x7f', b'\x9f'):
+    for s in (b'\x1f', b'\x7f', b'\x9f', b'\xa0'):
         d.put('sense %r' % s, (23, 8), {8: s})
     number_damage(d, 4)
     extremes(d)
@@ -1081,10 +1112,10 @@ def damage_7():
     sign_damage(d, 3)
     sign_by_number(d, 3, False)
     sign_by_number(d, 7, True)
-    # NODO TIPO: any byte of the A set, or blank (R09)
-    for t in (b'?', b'|', b'0', b'\x7e', b'\xa0', b'\xff'):
+    # NODO TIPO: any byte of the A set but A0 (W-202), or blank (R09)
+    for t in (b'?', b'|', b'0', b'\x7e', b'\xa1', b'\xff'):
         d.put('TIPO %r' % t, None, {2: t})
-    for t in (b'\x1f', b'\x7f', b'\x80', b'\x9f'):
+    for t in (b'\x1f', b'\x7f', b'\x80', b'\x9f', b'\xa0'):
         d.put('TIPO %r' % t, (23, 2), {2: t})
     number_damage(d, 1)
     extremes(d)

@@ -10,6 +10,9 @@ const WIDTH: usize = 100;
 /// A record's bytes stand so far to the right.
 const MARGIN: usize = 4;
 
+/// The byte that looks like a blank in most viewers and is none.
+pub const NO_BREAK: u8 = 0xA0;
+
 /// A byte as it is shown: itself, or `\xNN` if it is no printing ASCII character. The backslash is
 /// escaped too, so that no two bytes look alike.
 fn cell(byte: u8) -> String {
@@ -34,6 +37,7 @@ pub fn byte_words(byte: u8) -> String {
         b'\n' => "a line feed (0A)".to_string(),
         b'\r' => "a carriage return (0D)".to_string(),
         0x1A => "an end mark (1A)".to_string(),
+        NO_BREAK => "a no-break blank (A0)".to_string(),
         0x21..=0x7E => format!("'{}'", char::from(byte)),
         _ => format!("byte {byte:02X}"),
     }

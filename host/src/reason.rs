@@ -20,7 +20,7 @@ pub enum Reason {
     NoBar = 21,
     /// An N field is neither all digits nor all blanks.
     NotNumber = 22,
-    /// An A field has a byte that no text may have, or begins in a blank.
+    /// An A field has a byte that no text may have, begins in a blank, or begins or ends in A0.
     NotText = 23,
     /// A field is missing that may not be, or is blank while its partner isn't.
     Missing = 24,

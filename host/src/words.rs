@@ -64,14 +64,19 @@ pub const fn of(reason: Reason) -> Words {
                   coordinate's sign into its own field.",
         },
         Reason::NotText => Words {
-            wrong: "A text has a byte that no text may have, or begins in a blank.",
+            wrong: "A text has a byte that no text may have, begins in a blank, or begins or ends in \
+                    a no-break blank (A0).",
             rule:
                 "An A field has bytes 20 to 7E and A0 to FF (ISO 8859-1), and its text begins at \
-                   its first byte. A field that is all blank is missing.",
+                   its first byte. The text, without the blanks (20) after it, neither begins nor \
+                   ends in the no-break blank A0; within it A0 is a byte like others. A field that \
+                   is all blank is missing; one of A0 is not.",
             look: "The field: control bytes, a text in another code page, a text pushed to the \
-                   right.",
+                   right, a text filled up with no-break blanks (shown as \\xA0), which look like \
+                   blanks and are none.",
             ask: "To write texts from the left, in ISO 8859-1 (not in UTF-8 or a DOS or Windows \
-                  code page), without tabs or other control bytes.",
+                  code page), without tabs or other control bytes, and to fill them up with blanks \
+                  (20), not with no-break blanks (A0).",
         },
         Reason::Missing => Words {
             wrong: "Something is missing that must be there, or a sign or a number stands without \
@@ -216,9 +221,9 @@ pub const fn of(reason: Reason) -> Words {
         },
         Reason::BadText => Words {
             wrong: "The text is too long, has a byte that no text may have, or begins or ends in a \
-                    blank.",
+                    blank or a no-break blank (A0).",
             rule: "A text has at most as many bytes as its field, only bytes 20 to 7E and A0 to \
-                   FF, and neither begins nor ends in a blank.",
+                   FF, and neither begins nor ends in a blank (20) or a no-break blank (A0).",
             look: "The field's text.",
             ask: "Shorten or clean the text.",
         },

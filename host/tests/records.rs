@@ -88,7 +88,11 @@ fn odd_text(random: &mut Random) -> Vec<u8> {
             b"0100000",
             b"NA ",
             b" ",
-        ][random.below(11) as usize]
+            b"\xA0",
+            b"NA\xA0",
+            b"\xA0x",
+            b"x\xA0x",
+        ][random.below(15) as usize]
             .to_vec();
     }
     text

@@ -101,7 +101,7 @@ pub struct Vertice {
 #[derive(Clone, Debug, PartialEq, Eq)]
 pub struct Nodo {
     pub id_nodo: u64,
-    /// Any byte of the A set; blank is missing.
+    /// Any byte of the A set but the no-break blank; blank is missing.
     pub tipo: u8,
     pub posicion: Posicion,
 }

@@ -206,10 +206,7 @@ fn record_reasons(file: usize, record: &[u8], found: &mut BTreeSet<u8>) {
         let bytes = contents[place];
         let sound = match field.form {
             Form::N => blank[place] || bytes.iter().all(u8::is_ascii_digit),
-            Form::A => {
-                let lawful = bytes.iter().all(|&byte| is_a_byte(byte));
-                lawful && (bytes[0] != b' ' || blank[place])
-            }
+            Form::A => blank[place] || is_lawful_text(bytes),
         };
         tell(22, field.form == Form::N && !sound);
         tell(23, field.form == Form::A && !sound);
@@ -226,6 +223,14 @@ fn record_reasons(file: usize, record: &[u8], found: &mut BTreeSet<u8>) {
     if file == OB_LIN && blank[4..10].contains(&false) {
         tell(24, blank[4..8].contains(&true));
     }
+}
+
+/// Whether a field that isn't blank keeps the A rule: its text goes from the
+/// first byte to the last that isn't blank.
+fn is_lawful_text(bytes: &[u8]) -> bool {
+    let end = bytes.iter().rposition(|&byte| byte != b' ').unwrap();
+    let a0_at_an_end = bytes[0] == 0xA0 || bytes[end] == 0xA0;
+    bytes.iter().all(|&byte| is_a_byte(byte)) && bytes[0] != b' ' && !a0_at_an_end
 }
 
 fn size_of_seed(seed: u64) -> Size {
@@ -566,6 +571,9 @@ const SIGHTS: &[Sight] = &[
     ("name with bar", |model| {
         any_name(model, |name| name.contains(&b'|'))
     }),
+    ("name with byte A0", |model| {
+        any_name(model, |name| name.contains(&0xA0))
+    }),
     ("name of full width", |model| {
         any_name(model, |name| name.len() == 60)
     }),
@@ -771,6 +779,10 @@ fn aims_strike_every_field_they_can() {
     );
     assert_eq!(
         struck_fields(Aim::BrokenText),
+        fields_where(|field| field.form == Form::A)
+    );
+    assert_eq!(
+        struck_fields(Aim::NoBreakPadding),
         fields_where(|field| field.form == Form::A)
     );
     assert!(struck_fields(Aim::MinusZero).is_superset(&fields_where(Field::is_sign)));

@@ -101,10 +101,18 @@ pub fn a_byte(random: &mut Random) -> u8 {
     }
 }
 
-/// A byte of the A set that isn't blank.
+/// The no-break blank, which converters use as padding.
+pub const NO_BREAK: u8 = 0xA0;
+
+/// A blank of either sort: a text may neither begin nor end in it.
+pub fn is_padding(byte: u8) -> bool {
+    byte == b' ' || byte == NO_BREAK
+}
+
+/// A byte of the A set that a text may begin and end in.
 pub fn visible_byte(random: &mut Random) -> u8 {
     match a_byte(random) {
-        b' ' => b'|',
+        padding if is_padding(padding) => b'|',
         other => other,
     }
 }
@@ -135,10 +143,10 @@ const ODD_CODES: &[&[u8]] = &[
     b"+",
     b"-1",
     b"~",
-    b"\xA0",
-    b"\xA0NA",
-    b"NA\xA0",
-    b"ND\xA0\xA0",
+    b"N\xA0A",
+    b"NA\xA0A",
+    b"ND\xA0\xA0D",
+    b"\xA1\xA0\xA1",
     b"\xD1and\xFA",
     b"\xFF\xFF\xFF\xFF\xFF\xFF\xFF",
     b"0100000",
@@ -182,7 +190,7 @@ pub fn code_beside(random: &mut Random, like: &[u8], taken: &BTreeSet<Vec<u8>>) 
 fn near_code(random: &mut Random, like: &[u8]) -> Vec<u8> {
     let mut code = like.to_vec();
     match random.below(6) {
-        0 => code.push(0xA0),
+        0 if code.len() > 1 => code.insert(1, NO_BREAK),
         1 => {
             code.pop();
         }
@@ -211,22 +219,22 @@ pub fn is_a_byte(byte: u8) -> bool {
     (0x20..=0x7E).contains(&byte) || byte >= 0xA0
 }
 
-/// A text's value holds no blank at either end and fits its width.
+/// A text's value has no blank of either sort at its ends and fits its width.
 pub fn tidy(mut text: Vec<u8>, width: usize) -> Vec<u8> {
     text.truncate(width);
-    while text.last() == Some(&b' ') {
+    while text.last().map_or(false, |&byte| is_padding(byte)) {
         text.pop();
     }
-    let blanks = text.iter().take_while(|&&byte| byte == b' ').count();
-    text.drain(..blanks);
+    let padding = text.iter().take_while(|&&byte| is_padding(byte)).count();
+    text.drain(..padding);
     text
 }
 
-/// Bytes of the A set, exactly so many, blanks within only.
+/// Bytes of the A set, exactly so many, blanks of either sort within only.
 fn noise(random: &mut Random, width: usize) -> Vec<u8> {
     let mut text: Vec<u8> = (0..width).map(|_| a_byte(random)).collect();
     for end in [0, width - 1] {
-        if text[end] == b' ' {
+        if is_padding(text[end]) {
             text[end] = visible_byte(random);
         }
     }
@@ -245,9 +253,9 @@ const ODD_TEXTS: &[&[u8]] = &[
     b"Nacional I | tramo 2",
     b"-",
     b"+000000000",
-    b"\xA0",
-    b"\xA0NA",
-    b"Espa\xF1a\xA0",
+    b"N\xA0A",
+    b"Santo\xA0Domingo",
+    b"\xA1\xA0\xA1",
     b"Orilla   de    Lago",
 ];
 

@@ -162,12 +162,18 @@ fn take_text(bytes: &[u8]) -> Cell<'_> {
     }
 }
 
-/// Whether a value may stand in an A field: some bytes, all of the A set,
-/// the first and the last not blank.
+/// Whether a value may stand in an A field: some bytes, all of the A set, and
+/// neither a blank nor a no-break blank at either end.
 pub(crate) fn is_text(text: &[u8]) -> bool {
-    text.first().map_or(false, |&b| b != b' ')
-        && text.last() != Some(&b' ')
+    is_visible(text.first())
+        && is_visible(text.last())
         && text.iter().all(|b| matches!(b, 0x20..=0x7E | 0xA0..=0xFF))
+}
+
+/// Whether there is a byte and it shows: converters pad texts with either of
+/// the two that don't (W-202).
+fn is_visible(end: Option<&u8>) -> bool {
+    end.map_or(false, |b| !matches!(b, b' ' | 0xA0))
 }
 
 /// Whether a text is outside the domain of its form, signs apart.

@@ -6,7 +6,7 @@ use canopyrail::{Break, Reason};
 use super::{likeness, Page};
 use crate::delivery::Delivery;
 use crate::layout::{end_part, field_words, limit, x_field, Part, CATALOGO, OB_LIN, TRAMO};
-use crate::picture::{byte_words, grouped, many, shown};
+use crate::picture::{byte_words, grouped, many, shown, NO_BREAK};
 
 pub fn too_long(page: &mut Page, b: &Break) {
     let text = format!(
@@ -158,8 +158,42 @@ fn not_text(bytes: &[u8]) -> String {
             place + 1,
             byte_words(bytes[place])
         ),
-        None => String::new(),
+        None => padded(bytes),
     }
+}
+
+/// Where a text begins or ends in no-break blanks, and what that byte is: on a screen it can't be
+/// told from a blank.
+fn padded(bytes: &[u8]) -> String {
+    let last = bytes.iter().rposition(|byte| *byte != b' ');
+    let text = &bytes[..last.map_or(0, |place| place + 1)];
+    let is_padding = |byte: &&u8| **byte == NO_BREAK;
+    let before = text.iter().take_while(is_padding).count();
+    let after = text.iter().rev().take_while(is_padding).count();
+    let mut said = String::new();
+    if before > 0 {
+        said.push_str(&padding_words(1, before, "begins"));
+    }
+    if after > 0 && before < text.len() {
+        said.push_str(&padding_words(text.len() - after + 1, text.len(), "ends"));
+    }
+    if said.is_empty() {
+        return said;
+    }
+    said + "That byte looks like a blank and is none: some converters fill short texts up with it, \
+            and a search for the text misses it then."
+}
+
+/// That the bytes from one to another, counted from 1, are no-break blanks.
+fn padding_words(first: usize, last: usize, does: &str) -> String {
+    if first == last {
+        let what = byte_words(NO_BREAK);
+        return format!("Byte {first} of the field is {what}, and the text {does} in it. ");
+    }
+    format!(
+        "Bytes {first} to {last} of the field are no-break blanks (A0), and the text {does} in \
+         them. "
+    )
 }
 
 fn is_blank(bytes: &[u8]) -> bool {

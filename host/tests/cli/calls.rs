@@ -236,6 +236,16 @@ fn refusals_of_writing() {
         tried(CATALOGO, &entry(Value::Text(b"a ".to_vec())), 133),
         Err((63, 3))
     );
+    for (name, told) in [
+        (&b"\xA0a"[..], Err((63, 3))),
+        (b"a\xA0", Err((63, 3))),
+        (b"\xA0", Err((63, 3))),
+        (b"a\xA0a", Ok(133)),
+        (b"\xA1a\xA1", Ok(133)),
+    ] {
+        let name = Value::Text(name.to_vec());
+        assert_eq!(tried(CATALOGO, &entry(name.clone()), 133), told, "{name:?}");
+    }
     assert_eq!(tried(CATALOGO, &entry(Value::Missing), 132), Err((61, 0)));
     assert_eq!(tried(CATALOGO, &entry(Value::Missing), 0), Err((61, 0)));
     assert_eq!(tried(CATALOGO, &[text(8)], 133), Err((63, 1)));

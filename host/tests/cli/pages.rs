@@ -290,6 +290,100 @@ fn the_bytes_of_a_record() {
     ]);
 }
 
+/// What the page says of the byte A0 at a text's end.
+const NO_BREAK: &str =
+    "That byte looks like a blank and is none: some converters fill short texts \
+                        up with it, and a search for the text misses it then.";
+
+#[test]
+fn no_break_blanks() {
+    let name = offset(OB_LIN, 4);
+    check(&[
+        Sample {
+            what: "23, a no-break blank before the text",
+            files: s().poke(OB_LIN, 1, name, b"\xA0Camino"),
+            line: "NO 23 4 00001 04",
+            says: &[
+                "OB_LIN record 1, field 4 NOMBRE_I (the name)",
+                "Byte 1 of the field is a no-break blank (A0), and the text begins in it.",
+                NO_BREAK,
+            ],
+            marks: &["\\xA0Camino                                                     "],
+        },
+        Sample {
+            what: "23, a no-break blank after the text",
+            files: s().poke(OB_LIN, 1, name, b"Camino\xA0"),
+            line: "NO 23 4 00001 04",
+            says: &[
+                "Byte 7 of the field is a no-break blank (A0), and the text ends in it.",
+                NO_BREAK,
+            ],
+            marks: &["Camino\\xA0                                                     "],
+        },
+        Sample {
+            what: "23, a no-break blank before and after the text",
+            files: s().poke(OB_LIN, 1, name, b"\xA0Camino\xA0"),
+            line: "NO 23 4 00001 04",
+            says: &[
+                "Byte 1 of the field is a no-break blank (A0), and the text begins in it. Byte 8 of \
+                 the field is a no-break blank (A0), and the text ends in it. That byte looks",
+            ],
+            marks: &["\\xA0Camino\\xA0                                                    "],
+        },
+        Sample {
+            what: "23, a code filled up with no-break blanks",
+            files: s().poke(TRAMO, 1, offset(TRAMO, 5), b"NA\xA0\xA0\xA0\xA0\xA0"),
+            line: "NO 23 5 00001 05",
+            says: &[
+                "field 5 CODIGO (the code)",
+                "Bytes 3 to 7 of the field are no-break blanks (A0), and the text ends in them.",
+            ],
+            marks: &["NA\\xA0\\xA0\\xA0\\xA0\\xA0"],
+        },
+        Sample {
+            what: "23, no-break blanks alone",
+            files: s().poke(TRAMO, 1, offset(TRAMO, 5), b"\xA0\xA0     "),
+            line: "NO 23 5 00001 05",
+            says: &[
+                "Bytes 1 to 2 of the field are no-break blanks (A0), and the text begins in them. \
+                 That byte looks",
+            ],
+            marks: &["\\xA0\\xA0     "],
+        },
+        Sample {
+            what: "23, a no-break blank for a sense",
+            files: s().poke(TRAMO, 1, offset(TRAMO, 8), b"\xA0"),
+            line: "NO 23 5 00001 08",
+            says: &[
+                "field 8 SENTIDO (the sense)",
+                "Byte 1 of the field is a no-break blank (A0), and the text begins in it.",
+            ],
+            marks: &["\\xA0"],
+        },
+        Sample {
+            what: "23, a control byte within no-break blanks",
+            files: s().poke(OB_LIN, 1, name, b"\xA0\x01\xA0"),
+            line: "NO 23 4 00001 04",
+            says: &["Byte 2 of the field is byte 01."],
+            marks: &["\\xA0\\x01\\xA0                                                         "],
+        },
+        Sample {
+            what: "a no-break blank within a text",
+            files: s().poke(OB_LIN, 1, name, b"Camino\xA0Real"),
+            line: "OK 00002 00000 00000 00001 00001 00002 00002",
+            says: &["Accepted"],
+            marks: &[],
+        },
+        Sample {
+            what: "22, no-break blanks in a number",
+            files: s().poke(NODO, 1, offset(NODO, 4), b"\xA0\xA0\xA0000100"),
+            line: "NO 22 7 00001 04",
+            says: &["Byte 1 of the field is a no-break blank (A0)."],
+            marks: &["\\xA0\\xA0\\xA0000100"],
+        },
+    ]);
+}
+
 /// S with one blank too many in the first node's record, and the file's last byte cut off.
 fn shifted() -> Files {
     let mut files = s();

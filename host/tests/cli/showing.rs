@@ -114,6 +114,23 @@ fn show_marks_what_is_not_lawful() {
 }
 
 #[test]
+fn show_says_what_a_no_break_blank_is() {
+    let name = offset(CATALOGO, 3);
+    let room = Room::holding(&s().poke(CATALOGO, 1, name, b"POZO\xA0"));
+    let page = show(&room.file(CATALOGO), "1");
+    assert_eq!((page.status, page.err.as_str()), (1, ""));
+    let text = flowing(&page.out);
+    assert!(
+        text.contains("Byte 5 of the field is a no-break blank (A0), and the text ends in it."),
+        "{text}"
+    );
+    let room = Room::holding(&s().poke(CATALOGO, 1, name, b"POZO\xA0VIEJO"));
+    let page = show(&room.file(CATALOGO), "1");
+    assert_eq!(page.status, 0);
+    assert!(page.out.contains(r#" 3 NOMBRE_C "POZO\xA0VIEJO""#));
+}
+
+#[test]
 fn show_cannot_read_what_is_not_there() {
     let room = Room::holding(&s().append(NODO, b"0000000003"));
     let node = room.file(NODO);

@@ -1,6 +1,7 @@
 //! What crates/writes should print: the writing call's cases of document 01,
-//! "Single-record calls add", and three of the reading call's, answered by the
-//! independent codec. The program states the same cases in the same order.
+//! "Single-record calls add", with those of W-202, and three of the reading
+//! call's, answered by the independent codec. The program states the same cases
+//! in the same order.
 
 use independent::{read, write, Refusal, Value};
 
@@ -87,6 +88,8 @@ fn nodes() -> Vec<Case> {
         show("node id 0", 7, number(plain(), 1, 0)),
         case("node X missing", 7, no(plain(), 4)),
         case("node nothing given", 7, none()),
+        case("node TIPO A0", 7, text(plain(), 2, b"\xA0")),
+        case("node TIPO A1", 7, text(plain(), 2, b"\xA1")),
     ]
 }
 
@@ -125,6 +128,11 @@ fn names() -> Vec<Case> {
         case("name with A0", 4, named(b"A\xA0B")),
         show("name missing", 4, named(b"")),
         show("name NA", 4, named(b"NA")),
+        case("name A0 first", 4, named(b"\xA0A")),
+        case("name A0 last", 4, named(b"A\xA0")),
+        case("name of A0", 4, named(b"\xA0")),
+        case("name NA and A0", 4, named(b"NA\xA0")),
+        case("name A1 first and last", 4, named(b"\xA1A\xA1")),
     ]
 }
 
@@ -134,6 +142,8 @@ fn codes() -> Vec<Case> {
         case("code NA", 4, line(b"NA", b"a")),
         case("code ND", 4, line(b"ND", b"a")),
         show("code na", 4, line(b"na", b"a")),
+        case("code NA and A0", 4, line(b"NA\xA0", b"a")),
+        case("code with A0", 4, line(b"NA\xA0A", b"a")),
     ]
 }
 
@@ -161,6 +171,8 @@ fn catalogue() -> Vec<Case> {
         case("catalogue TIPO Q", 1, catalogued(b"Q")),
         case("catalogue TIPO missing", 1, catalogued(b"")),
         show("catalogue TIPO T", 1, catalogued(b"T")),
+        case("catalogue TIPO A0", 1, catalogued(b"\xA0")),
+        case("catalogue TIPO A1", 1, catalogued(b"\xA1")),
     ]
 }
 
@@ -175,6 +187,8 @@ fn tramos() -> Vec<Case> {
         case("tramo sense x", 5, tramo(b"x")),
         show("tramo sense blank", 5, tramo(b"")),
         show("tramo sense -", 5, tramo(b"-")),
+        case("tramo sense A0", 5, tramo(b"\xA0")),
+        case("tramo sense A1", 5, tramo(b"\xA1")),
     ]
 }
 

@@ -53,6 +53,12 @@ impl Draft {
         });
     }
 
+    /// The bytes of a field.
+    pub fn get(&self, file: usize, record: usize, field: usize) -> Vec<u8> {
+        let start = start(file, field);
+        self.records[file][record - 1][start..start + width(file, field)].to_vec()
+    }
+
     /// Other bytes in a field, as many as it has.
     pub fn put(&mut self, file: usize, record: usize, field: usize, bytes: &[u8]) {
         let start = start(file, field);

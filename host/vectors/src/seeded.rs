@@ -2,8 +2,12 @@
 
 use deliveries::{damage, damaged, lawful, write, Aim, Files, Outcome, Random, Size, AIMS, RECORD};
 
-/// No delivery drawn is longer, so that many fit the program's room.
-const MOST_BYTES: usize = 1_900;
+/// No delivery drawn for an aim is longer, so that many fit the program's room;
+/// some aims find no place in a shorter one.
+const MOST_AIMED: usize = 1_900;
+
+/// No other delivery drawn is longer.
+const MOST_OTHER: usize = 1_300;
 
 /// Each aim by itself, those that break a rule more often; lawful deliveries;
 /// several damages at once; bytes of no sense. The aims that make a file of
@@ -17,19 +21,22 @@ pub fn seeded() -> Vec<Files> {
             Outcome::Broken(_) => 3,
             Outcome::Lawful | Outcome::Open => 1,
         };
-        all.extend(drawn(1_000 * place, many, |random| aimed(random, aim)));
+        all.extend(drawn(1_000 * place, many, MOST_AIMED, |random| {
+            aimed(random, aim)
+        }));
     }
-    all.extend(drawn(0, 40, |random| write(&lawful(random, Size::UpTo(8)))));
-    all.extend(drawn(0, 30, |random| damaged(random).0));
-    all.extend(drawn(0, 10, senseless));
+    let a_lawful_one = |random: &mut Random| write(&lawful(random, Size::UpTo(8)));
+    all.extend(drawn(0, 40, MOST_OTHER, a_lawful_one));
+    all.extend(drawn(0, 30, MOST_OTHER, |random| damaged(random).0));
+    all.extend(drawn(0, 10, MOST_OTHER, senseless));
     all
 }
 
-/// So many short deliveries, from a seed on.
-fn drawn(from: u64, many: usize, make: impl Fn(&mut Random) -> Files) -> Vec<Files> {
+/// So many deliveries that are short enough, from a seed on.
+fn drawn(from: u64, many: usize, most: usize, make: impl Fn(&mut Random) -> Files) -> Vec<Files> {
     (from..)
         .map(|seed| make(&mut Random::new(seed)))
-        .filter(|files| files.concat().len() <= MOST_BYTES)
+        .filter(|files| files.concat().len() <= most)
         .take(many)
         .collect()
 }

@@ -80,12 +80,19 @@ fn rows(counts: &Counts) -> String {
 #[test]
 fn the_independent_checker_counts_what_was_stated_by_hand() {
     let of_name: BTreeMap<_, _> = stated().into_iter().map(|s| (s.name, s.files)).collect();
-    let grids: [(&str, &Counts); 8] = [
+    let grids: [(&str, &Counts); 10] = [
         ("rich", &[]),
         ("r11-lowest-of-two-files", &[(2, 1, 1), (4, 1, 1)]),
         ("r20-lowest-file-first", &[(2, 2, 1), (3, 2, 1)]),
         ("r21-all-bars-are-commas", &[(7, 2, 7)]),
         ("r24-centroid-one-sign-alone", &[(4, 2, 3)]),
+        // 23 at the sign and 24 at its number
+        ("r23-sign-of-a-no-break-blank-beside-no-z", &[(7, 2, 2)]),
+        // the texts that aren't missing
+        (
+            "r23-all-names-filled-with-no-break-blanks",
+            &[(1, 2, 15), (2, 2, 3), (3, 2, 2), (4, 2, 3)],
+        ),
         ("case-04", &[(6, 5, 2)]),
         ("case-08", &[(7, 3, 1)]),
         // 54 and 56 at one node

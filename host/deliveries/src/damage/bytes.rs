@@ -6,6 +6,7 @@ use super::{strike, ByteStep};
 use crate::layout::{field_start, fields, Field, Form, OB_LIN, RECORD};
 use crate::model::Files;
 use crate::random::Random;
+use crate::values::NO_BREAK;
 
 /// Bytes at the edges of what fields, bars and record ends may hold.
 const NASTY: &[u8] = &[
@@ -267,6 +268,56 @@ pub const BROKEN_TEXT: &[ByteStep] = &[
     },
 ];
 
+pub const NO_BREAK_PADDING: &[ByteStep] = &[
+    // Before the text, which moves to the right.
+    |random, files| {
+        strike(spot(random, files, is_text), |text| {
+            let bytes = text.bytes(files);
+            bytes.rotate_right(1);
+            bytes[0] = NO_BREAK;
+        })
+    },
+    // After it, in the place of some blanks or of all. A text that fills its
+    // field gives up its last byte.
+    |random, files| {
+        strike(spot(random, files, is_text), |text| {
+            let bytes = text.bytes(files);
+            let used = text_length(bytes).min(bytes.len() - 1);
+            let padding = 1 + random.index(bytes.len() - used);
+            bytes[used..used + padding].fill(NO_BREAK);
+        })
+    },
+    // In the last byte of a text that fills its field.
+    |random, files| {
+        strike(spot(random, files, is_wide_text), |text| {
+            text.fill(files, b'x');
+            let bytes = text.bytes(files);
+            bytes[bytes.len() - 1] = NO_BREAK;
+        })
+    },
+    // Alone: no text at all, and yet not missing.
+    |random, files| {
+        strike(spot(random, files, is_text), |text| {
+            text.fill(files, b' ');
+            text.bytes(files)[0] = NO_BREAK;
+        })
+    },
+    // After NA and ND, which it doesn't make a code of.
+    |random, files| {
+        strike(spot(random, files, Field::is_code), |code| {
+            code.fill(files, b' ');
+            let word = random.pick(&[b"NA\xA0", b"ND\xA0"]);
+            code.bytes(files)[..3].copy_from_slice(word);
+        })
+    },
+];
+
+/// The bytes of a field up to the blanks after its text.
+fn text_length(bytes: &[u8]) -> usize {
+    let last = bytes.iter().rposition(|&byte| byte != b' ');
+    last.map_or(0, |last| last + 1)
+}
+
 fn is_text(field: &Field) -> bool {
     field.form == Form::A
 }
@@ -346,8 +397,9 @@ pub const OUTSIDE_DOMAIN: &[ByteStep] = &[|random, files| {
     strike(
         spot(random, files, |field| !field.domain.is_empty()),
         |spot| {
-            // C and S are types of MIGRA that the base doesn't take.
-            let mut bytes = b"CSplxt*0~|._\xA0\xB1\xD7PXLT+-".to_vec();
+            // C and S are types of MIGRA that the base doesn't take. A0 would be
+            // damage, and no value.
+            let mut bytes = b"CSplxt*0~|._\xA1\xB1\xD7PXLT+-".to_vec();
             bytes.retain(|byte| !spot.field.domain.contains(byte));
             spot.fill(files, random.pick(&bytes));
         },
@@ -529,7 +581,10 @@ fn redraw(random: &mut Random, files: &mut Files, spot: &Spot) {
     let contents: &[&[u8]] = match spot.field.form {
         Form::N => &[b"0", b"9", b" ", b"0 ", b" 0", b"0x", b"-1"],
         Form::A if width == 1 => &[b"+", b"-", b" ", b"*", b"P", b"\x7F", b"\xA0"],
-        Form::A => &[b"NA ", b"ND ", b" ", b" x ", b"na ", b"x\x80", b"|", b"0"],
+        Form::A => &[
+            b"NA ", b"ND ", b" ", b" x ", b"na ", b"x\x80", b"|", b"0", b"\xA0x ", b"x\xA0 ",
+            b"x\xA0x ", b"NA\xA0 ",
+        ],
     };
     let content = random.pick(contents);
     // The last byte fills the rest, so that `0` is all zeros and `NA ` padded.

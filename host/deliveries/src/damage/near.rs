@@ -9,7 +9,10 @@ use crate::lawful::{node_type, shuffle_files};
 use crate::layout::TYPES;
 use crate::model::{Catalogo, Model, Nodo, ObPun, Posicion, Tramo, Vertice};
 use crate::random::Random;
-use crate::values::{fresh_code, fresh_id, height, optional, text, X_MOST, Y_MOST, Z_MOST};
+use crate::values::{
+    fresh_code, fresh_id, height, optional, text, tidy, visible_byte, NO_BREAK, X_MOST, Y_MOST,
+    Z_MOST,
+};
 
 // Z counts for nothing but the difference of nodes.
 
@@ -476,10 +479,15 @@ fn code_with_bar(random: &mut Random, model: &mut Model) -> bool {
         barred.insert(place, b'|');
         pairs.push((record.codigo.clone(), barred));
     }
-    pairs.retain(|(_, barred)| !taken.contains(barred) && barred.last() != Some(&b' '));
+    pairs.retain(|(_, barred)| !taken.contains(barred) && is_tidy(barred));
     strike(random.one_of(pairs), |(old, new)| {
         rename_code(model, &old, &new)
     })
+}
+
+/// What was cut off may have left a blank of either sort at the end.
+fn is_tidy(code: &[u8]) -> bool {
+    tidy(code.to_vec(), code.len()) == code
 }
 
 fn rename_code(model: &mut Model, old: &[u8], new: &[u8]) {
@@ -492,6 +500,56 @@ fn rename_code(model: &mut Model, old: &[u8], new: &[u8]) {
     for code in catalogued.chain(objects).filter(|code| *code == old) {
         *code = new.to_vec();
     }
+}
+
+// A no-break blank may stand within a text, as near its ends as can be.
+
+pub const NO_BREAK_WITHIN: &[ValueStep] = &[
+    |random, model| {
+        let mut texts = free_texts(model);
+        texts.retain(|text| text.len() > 2);
+        strike(random.one_of(texts), |text| {
+            let inner = text.len() - 2;
+            let any = 1 + random.index(inner);
+            text[random.pick(&[1, inner, any])] = NO_BREAK;
+        })
+    },
+    |random, model| {
+        strike(random.one_of(free_texts(model)), |text| {
+            *text = vec![NO_BREAK; 60];
+            text[0] = visible_byte(random);
+            text[59] = visible_byte(random);
+        })
+    },
+    code_with_no_break,
+    // The byte beside it may begin and end a text.
+    |random, model| {
+        let next: [&[u8]; 4] = [b"\xA1", b"\xA1x", b"x\xA1", b"\xA1\xA0\xA1"];
+        strike(random.one_of(free_texts(model)), |text| {
+            *text = random.pick(&next).to_vec();
+        })
+    },
+    |random, model| {
+        let nodes = (0..model.nodo.len()).collect();
+        strike(random.one_of(nodes), |node: usize| {
+            model.nodo[node].tipo = NO_BREAK + 1;
+        })
+    },
+];
+
+/// NA with a no-break blank and more behind it is a code like others.
+fn code_with_no_break(random: &mut Random, model: &mut Model) -> bool {
+    let taken = codes(model);
+    let mut pairs = Vec::new();
+    for record in &model.catalogo {
+        for new in [&b"NA\xA0A"[..], b"N\xA0D", b"1\xA0\xA0\xA0\xA0\xA02"] {
+            pairs.push((record.codigo.clone(), new.to_vec()));
+        }
+    }
+    pairs.retain(|(_, new)| !taken.contains(new));
+    strike(random.one_of(pairs), |(old, new)| {
+        rename_code(model, &old, &new)
+    })
 }
 
 pub const NA_IN_NAME: &[ValueStep] = &[|random, model| {

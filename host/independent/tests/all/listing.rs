@@ -28,6 +28,13 @@ fn is_digits(bytes: &[u8]) -> bool {
     bytes.iter().all(u8::is_ascii_digit)
 }
 
+/// Whether the field's text begins in a blank, or begins or ends in A0: the
+/// blanks after it are no part of the text, and an A0 before them is.
+fn is_padded(bytes: &[u8]) -> bool {
+    let ends_in_a0 = |n: usize| bytes[n] == 0xA0 && is_blank(&bytes[n + 1..]);
+    bytes[0] == b' ' || bytes[0] == 0xA0 || (0..bytes.len()).any(ends_in_a0)
+}
+
 const CODE: [usize; 7] = [1, 4, 3, 3, 5, 0, 0];
 const FIRST_SIGN: [usize; 7] = [0, 8, 9, 5, 0, 3, 3];
 const NEEDED: [&[usize]; 7] = [
@@ -88,7 +95,7 @@ fn twenties_of_record(files: &Files, file: usize, record: usize) -> Vec<Place> {
         let number = NUMBERS[file - 1].contains(&field);
         let bad_number = number && !is_digits(have) && !is_blank(have);
         let in_a = |b: &u8| (0x20..0x7F).contains(b) || *b >= 0xA0;
-        let bad_text = !number && !is_blank(have) && (have[0] == b' ' || !have.iter().all(in_a));
+        let bad_text = !number && !is_blank(have) && (is_padded(have) || !have.iter().all(in_a));
         if bad_number {
             told(22);
         }
@@ -372,6 +379,13 @@ pub fn disturb(files: &mut Files, noise: &mut Noise) {
             let number = NUMBERS[file - 1].contains(&field);
             let new = match kind {
                 5 if noise.below(2) == 0 => vec![b' '; width],
+                // A0 anywhere in a text, its first and last byte included.
+                10 if !number => {
+                    let mut text = bytes[from..from + width].to_vec();
+                    let used = text.iter().rposition(|&b| b != b' ').map_or(0, |n| n + 1);
+                    text[noise.below((used + 1).min(width))] = 0xA0;
+                    text
+                }
                 6 | 7 if number => {
                     let small = noise.below(6);
                     format!("{small:0width$}").into_bytes()

@@ -280,13 +280,28 @@ fn texts_are_63() {
         b"\x7F",
         b"\x80",
         b"\x9F",
+        b"\xA0",
+        b"\xA0x",
+        b"x\xA0",
+        b"x \xA0",
+        b"NA\xA0",
+        &[0xA0; 60],
         &[b'x'; 61],
     ] {
         let mut values = a_linear();
         values[3] = text(bad);
-        assert_eq!(refused(4, &values), (63, 4));
+        assert_eq!(refused(4, &values), (63, 4), "{bad:?}");
     }
-    for good in [&b"a|b"[..], b"\xA0", b"\xFF", b"x  x", b"NA", &[b'~'; 60]] {
+    for good in [
+        &b"a|b"[..],
+        b"x\xA0x",
+        b"x\xA0 \xA0x",
+        b"\xA1",
+        b"\xFF",
+        b"x  x",
+        b"NA",
+        &[b'~'; 60],
+    ] {
         let mut values = a_linear();
         values[3] = text(good);
         assert_eq!(read(4, &written(4, &values), 1), Ok(values));
@@ -303,14 +318,16 @@ fn codes_on_writing() {
         values[4] = text(missing);
         assert_eq!(refused(5, &values), (64, 5));
     }
-    for bad in [&b"NA "[..], b" NA", b" ", b"12345678"] {
+    for bad in [&b"NA "[..], b" NA", b" ", b"12345678", b"NA\xA0", b"\xA0ND"] {
         let mut values = an_entry();
         values[0] = text(bad);
         assert_eq!(refused(1, &values), (63, 1));
     }
-    let mut values = an_entry();
-    values[0] = text(b"NAD");
-    written(1, &values);
+    for good in [&b"NAD"[..], b"NA\xA0D", b"N\xA0A"] {
+        let mut values = an_entry();
+        values[0] = text(good);
+        assert_eq!(read(1, &written(1, &values), 1), Ok(values));
+    }
 }
 
 #[test]
@@ -318,7 +335,8 @@ fn domains_are_65() {
     for (bytes, found) in [
         (&b"C"[..], (65, 2)),
         (b"p", (65, 2)),
-        (b"\xA0", (65, 2)),
+        (b"\xA0", (63, 2)),
+        (b"\xA1", (65, 2)),
         (b"", (64, 2)),
         (b"PP", (63, 2)),
         (b" ", (63, 2)),
@@ -333,6 +351,8 @@ fn domains_are_65() {
         (b"+-", (63, 8)),
         (b" ", (63, 8)),
         (b"\x80", (63, 8)),
+        (b"\xA0", (63, 8)),
+        (b"\xA1", (65, 8)),
     ] {
         let mut values = a_tramo();
         values[7] = text(bytes);
@@ -344,10 +364,12 @@ fn domains_are_65() {
         written(5, &values);
     }
     let mut values = a_node();
-    values[1] = text(b"\xA0");
-    assert_eq!(written(7, &values)[11], 0xA0);
-    values[1] = text(b"AB");
-    assert_eq!(refused(7, &values), (63, 2));
+    values[1] = text(b"\xA1");
+    assert_eq!(written(7, &values)[11], 0xA1);
+    for bad in [&b"\xA0"[..], b"AB"] {
+        values[1] = text(bad);
+        assert_eq!(refused(7, &values), (63, 2));
+    }
 }
 
 #[test]

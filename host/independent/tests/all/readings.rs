@@ -198,15 +198,85 @@ fn r06_a_sign_outside_its_domain_is_one_25() {
 fn r07_blank_is_byte_20_alone() {
     let id = of_small(|f| set(f, 5, 1, 4, &[0xA0; 10]));
     assert_eq!(id, "NO 22 5 00001 04");
-    let name = of_small(|f| set(f, 4, 1, 4, b"\xA0x"));
-    assert_eq!(name, S_OK);
+    // A0 is none: a field of it is not missing (W-202 says what it is), and a
+    // sign of it wants its number.
     let tipo = of_small(|f| set(f, 1, 1, 2, b"\xA0"));
-    assert_eq!(tipo, "NO 25 1 00001 02");
-    let code = of_small(|f| {
-        set(f, 1, 1, 1, b"NA\xA0");
-        set(f, 4, 1, 3, b"NA\xA0");
-    });
-    assert_eq!(code, S_OK);
+    assert_eq!(tipo, "NO 23 1 00001 02");
+    let centroid = of_small(|f| set(f, 4, 1, 9, b"\xA0"));
+    assert_eq!(centroid, "NO 24 4 00001 05");
+    let sign = of_small(|f| set(f, 7, 1, 7, b"\xA0"));
+    assert_eq!(sign, "NO 23 7 00001 07");
+}
+
+#[test]
+fn w202_a_text_neither_begins_nor_ends_in_a0() {
+    for text in [
+        &b"\xA0x"[..],
+        b"x\xA0",
+        b"\xA0x\xA0",
+        b"\xA0",
+        b"\xA0\xA0",
+        b"\xA0 x",
+        b"x \xA0",
+        b"x\xA0\xA0",
+        b"NA\xA0",
+        b"\xA0NA",
+        &[0xA0; 60],
+    ] {
+        let name = of_small(|f| set(f, 4, 1, 4, text));
+        assert_eq!(name, "NO 23 4 00001 04", "{text:?}");
+    }
+    let last_of_all = |last: u8| {
+        let mut full = [b'x'; 60];
+        full[59] = last;
+        of_small(|f| set(f, 4, 1, 4, &full))
+    };
+    assert_eq!(last_of_all(0xA0), "NO 23 4 00001 04");
+    assert_eq!(last_of_all(0xA1), S_OK);
+}
+
+#[test]
+fn w202_a0_within_a_text_stays_lawful() {
+    for text in [
+        &b"x\xA0x"[..],
+        b"x\xA0\xA0\xA0x",
+        b"x\xA0 \xA0x",
+        b"\xA1",
+        b"\xA1x\xA1",
+        b"\xFF\xA0\xFF",
+    ] {
+        let name = of_small(|f| set(f, 4, 1, 4, text));
+        assert_eq!(name, S_OK, "{text:?}");
+    }
+}
+
+#[test]
+fn w202_every_a_field_follows() {
+    // Of one byte: either TIPO, a sign, the sense. A1 beside each is what any
+    // other byte is there.
+    for (file, field, other) in [(1, 2, "25"), (5, 8, "25"), (7, 3, "25"), (7, 2, "")] {
+        let said = of_small(|f| set(f, file, 1, field, b"\xA0"));
+        assert_eq!(said, format!("NO 23 {file} 00001 {field:02}"));
+        let beside = of_small(|f| set(f, file, 1, field, b"\xA1"));
+        match other {
+            "" => assert_eq!(beside, S_OK),
+            reason => assert_eq!(beside, format!("NO {reason} {file} 00001 {field:02}")),
+        }
+    }
+    // CODIGO: NA before A0 is no longer a code and never was missing.
+    let code = |text: &'static [u8]| {
+        of_small(|f| {
+            set(f, 1, 1, 1, text);
+            set(f, 4, 1, 3, text);
+        })
+    };
+    for text in [&b"NA\xA0"[..], b"ND\xA0\xA0", b"\xA0NA", b"\xA0", b"1\xA0"] {
+        assert_eq!(code(text), "NO 23 1 00001 01", "{text:?}");
+    }
+    for text in [&b"NA\xA0A"[..], b"N\xA0A", b"1\xA02", b"NA\xA1"] {
+        assert_eq!(code(text), S_OK, "{text:?}");
+    }
+    assert_eq!(code(b"NA"), "NO 24 1 00001 01");
 }
 
 #[test]
@@ -258,7 +328,8 @@ fn na_and_nd_are_texts_in_the_free_words() {
 #[test]
 fn r09_types_and_sense() {
     for byte in 0..=255_u8 {
-        let in_a = (0x20..=0x7E).contains(&byte) || byte >= 0xA0;
+        // A0 alone would begin in A0: W-202.
+        let in_a = (0x20..=0x7E).contains(&byte) || byte > 0xA0;
         let nodo = of_small(|f| set(f, 7, 1, 2, &[byte]));
         assert_eq!(nodo, if in_a { S_OK } else { "NO 23 7 00001 02" });
 

@@ -1,6 +1,7 @@
 //! Fields that break their rules: reasons 22 to 25.
 
-use super::{rich, Stated};
+use super::{rich, s, Stated};
+use crate::draft::Draft;
 use deliveries::{CATALOGO, NODO, OB_LIN, OB_PUN, OB_TEX, TRAMO, VERTICE};
 
 /// 22, N field neither all digits nor all blanks.
@@ -101,6 +102,103 @@ pub(super) fn reason_23() -> Vec<Stated> {
             },
         ),
     ]
+}
+
+/// 23, a text that begins or ends in byte A0, the no-break blank (W-202). The
+/// text is the field without the blanks after it; near.rs has the near misses.
+pub(super) fn reason_23_by_a0() -> Vec<Stated> {
+    vec![
+        s("r23-no-break-blank-first", "NO 23 4 00001 04", |d| {
+            d.text(OB_LIN, 1, 4, b"\xa0Camino");
+        }),
+        s("r23-no-break-blank-last", "NO 23 4 00001 04", |d| {
+            let mut text = [b'x'; 60];
+            text[59] = 0xa0;
+            d.put(OB_LIN, 1, 4, &text);
+        }),
+        s(
+            "r23-no-break-blank-before-the-blanks",
+            "NO 23 1 00001 03",
+            |d| {
+                d.text(CATALOGO, 1, 3, b"CAMINO\xa0");
+            },
+        ),
+        s("r23-no-break-blank-alone", "NO 23 1 00002 04", |d| {
+            // no text, and yet not missing
+            d.text(CATALOGO, 2, 4, b"\xa0");
+        }),
+        s("r23-name-of-no-break-blanks", "NO 23 4 00001 04", |d| {
+            d.put(OB_LIN, 1, 4, &[0xa0; 60]);
+        }),
+        s(
+            "r23-code-na-and-a-no-break-blank",
+            "NO 23 5 00001 05",
+            |d| {
+                d.text(TRAMO, 1, 5, b"NA\xa0");
+            },
+        ),
+        s(
+            "r23-catalogue-code-no-break-blank-last",
+            "NO 23 1 00001 01",
+            |d| {
+                d.text(CATALOGO, 1, 1, b"010000\xa0");
+            },
+        ),
+        s("r23-sign-of-a-no-break-blank", "NO 23 7 00001 03", |d| {
+            d.put(NODO, 1, 3, b"\xa0");
+        }),
+        s(
+            "r23-sign-of-a-no-break-blank-beside-no-z",
+            "NO 23 7 00002 07",
+            |d| {
+                // 23 at 7, then 24 at 8: the sign isn't missing
+                d.put(NODO, 2, 7, b"\xa0");
+            },
+        ),
+        s("r23-sense-of-a-no-break-blank", "NO 23 5 00001 08", |d| {
+            d.put(TRAMO, 1, 8, b"\xa0");
+        }),
+        rich(
+            "r23-catalogue-type-no-break-blank",
+            "NO 23 1 00004 02",
+            |d| {
+                // 23, and then no 25
+                d.put(CATALOGO, 4, 2, b"\xa0");
+            },
+        ),
+        s("r23-node-type-no-break-blank", "NO 23 7 00002 02", |d| {
+            d.put(NODO, 2, 2, b"\xa0");
+        }),
+        rich(
+            "r23-all-names-filled-with-no-break-blanks",
+            "NO 23 1 00001 03",
+            |d| {
+                // The story: two converters fill short names with A0.
+                for (file, fields) in [
+                    (CATALOGO, &[3, 4][..]),
+                    (OB_PUN, &[5]),
+                    (OB_TEX, &[4]),
+                    (OB_LIN, &[4]),
+                ] {
+                    fill_with_a0(d, file, fields);
+                }
+            },
+        ),
+    ]
+}
+
+/// Texts that aren't missing filled up to their fields' widths.
+fn fill_with_a0(d: &mut Draft, file: usize, fields: &[usize]) {
+    for record in 1..=d.records[file].len() {
+        for &field in fields {
+            let text = d.get(file, record, field);
+            if let Some(last) = text.iter().rposition(|&byte| byte != b' ') {
+                let mut filled = text;
+                filled[last + 1..].fill(0xa0);
+                d.put(file, record, field, &filled);
+            }
+        }
+    }
 }
 
 /// 24, missing where it may not be, or blank while a partner isn't.
@@ -209,14 +307,16 @@ pub(super) fn reason_25() -> Vec<Stated> {
         rich("r25-catalogue-type-small-letter", "NO 25 1 00003 02", |d| {
             d.put(CATALOGO, 3, 2, b"p");
         }),
-        rich(
-            "r25-catalogue-type-no-break-blank",
-            "NO 25 1 00004 02",
-            |d| {
-                // a byte of the A set, not blank
-                d.put(CATALOGO, 4, 2, b"\xa0");
-            },
-        ),
+        // the byte beside the no-break blank is damage nowhere
+        s("r25-catalogue-type-a1", "NO 25 1 00001 02", |d| {
+            d.put(CATALOGO, 1, 2, b"\xa1");
+        }),
+        s("r25-sign-a1", "NO 25 7 00001 03", |d| {
+            d.put(NODO, 1, 3, b"\xa1");
+        }),
+        s("r25-sense-a1", "NO 25 5 00001 08", |d| {
+            d.put(TRAMO, 1, 8, b"\xa1");
+        }),
         rich("r25-minus-zero-x", "NO 25 2 00002 08", |d| {
             // the sign there is -
             d.num(OB_PUN, 2, 9, 0);

@@ -47,6 +47,7 @@ pub fn stated() -> Vec<Stated> {
         shape::reason_21(),
         fields::reason_22(),
         fields::reason_23(),
+        fields::reason_23_by_a0(),
         fields::reason_24(),
         fields::reason_25(),
         keys::reason_30(),

@@ -154,13 +154,31 @@ pub(super) fn near_misses() -> Vec<Stated> {
                 }
             }
         }),
-        rich("ok-no-break-blanks-in-texts", RICH_OK, |d| {
-            d.put(OB_PUN, 1, 5, &[0xa0; 60]);
-            d.text(OB_LIN, 1, 4, b"\xa0Camino\xa0");
-            d.put(NODO, 1, 2, b"\xa0");
+        s("ok-no-break-blanks-within-texts", S_OK, |d| {
+            // second, last but one, and all between
+            d.text(CATALOGO, 1, 3, b"C\xa0MINO");
+            d.text(CATALOGO, 1, 4, b"Camino \xa0 de tierr\xa0a");
+            let mut text = [0xa0; 60];
+            text[0] = b'x';
+            text[59] = b'x';
+            d.put(OB_LIN, 1, 4, &text);
+        }),
+        s("ok-no-break-blanks-within-codes", S_OK, |d| {
+            d.text(CATALOGO, 1, 1, b"NA\xa0A");
+            d.text(OB_LIN, 1, 3, b"NA\xa0A");
+            d.text(CATALOGO, 2, 1, b"1\xa0\xa0\xa0\xa0\xa02");
+            d.text(TRAMO, 1, 5, b"1\xa0\xa0\xa0\xa0\xa02");
+        }),
+        s("ok-byte-a1-at-both-ends", S_OK, |d| {
+            // the byte beside the no-break blank, also alone and after NA
+            d.text(CATALOGO, 1, 3, b"\xa1");
+            d.text(CATALOGO, 1, 1, b"NA\xa1");
+            d.text(OB_LIN, 1, 3, b"NA\xa1");
+            d.text(OB_LIN, 1, 4, b"\xa1Camino\xa1");
+            d.put(NODO, 1, 2, b"\xa1");
         }),
         rich("ok-highest-bytes-in-texts", RICH_OK, |d| {
-            d.text(OB_PUN, 1, 5, b"\xa0\xff~!");
+            d.text(OB_PUN, 1, 5, b"\xff~!\xa0\xfe");
             d.put(NODO, 4, 2, b"\xff");
         }),
         rich("ok-any-digits-in-m-and-justification", RICH_OK, |d| {
