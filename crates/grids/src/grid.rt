@@ -1,4 +1,5 @@
 // The grid of a delivery: how many breaks each file has in the lowest group of reasons that has any.
+use fifties::group::tally_topology;
 use index::tally::Tally;
 use judge::judge::GROUPS;
 use keys::group::tally_keys;
@@ -9,7 +10,6 @@ use record::kind::FILES;
 use record::kind::Kind;
 use record::kind::Which;
 use record::kind::kind_of;
-use fifties::group::tally_topology;
 ghost use mathlib.Core.Path.{_≡_};
 ghost use mathlib.Core.List.{List, map};
 ghost use Prim.Native.Nat.{ℕ, _+_};

@@ -22,3 +22,7 @@ pub record Pairs (firsts seconds out : List ℕ) (n : ℕ) : Type 0 where
       (i j y : ℕ) → i < n → j < n → y < wide
       → eqb (getD out i 0) (getD out j 0 / wide * wide + y) ≡ (eqb (getD firsts i 0) (getD firsts j 0) && eqb (getD seconds i 0) y)
   pub small : (j : ℕ) → j < n → getD out j 0 / wide < 16384
+
+-- r is the number of the pair of x and y: that of each record that has both parts, and of no other
+pub record PairIs (firsts seconds out : List ℕ) (n x y r : ℕ) : Type 0 where
+  pub each : (j : ℕ) → j < n → eqb (getD out j 0) r ≡ (eqb (getD firsts j 0) x && eqb (getD seconds j 0) y)

@@ -3,7 +3,6 @@
 use crate::Found;
 use crate::numbers::fill_numbers;
 use crate::way::Way;
-use crate::way::is_there;
 use crate::way::look;
 ghost use mathlib.Core.Path.{_≡_};
 ghost use mathlib.Core.Bool.{_&&_};
@@ -18,6 +17,8 @@ ghost use Rattle.index.specs.Pairs.{wide, Joined, Pairs};
 
 // Second parts are below this.
 pub const WIDE: u64 = 1099511627776;
+// No pair has this number, 16,384 by WIDE.
+pub const NO_PAIR: u64 = 18014398509481984;
 
 // Puts the second parts beside the numbers that are there.
 fn join(seconds: &[u64], n: usize, out: &mut [u64])
@@ -48,37 +49,25 @@ pub fn fill_pairs<'a>(
     join(seconds, n, out);
 }
 
-// Whether a record has these parts. One that has the first part tells the number that stands for it.
-pub fn has_pair<'a>(
+// The number of the pair of x and y, by a record that has the first part; where none has it, a number that no pair has. The second parts are
+// there for the contract alone.
+pub fn pair_number<'a>(
     firsts: &'a [u64],
     order: &'a [usize],
     hints: &'a [u16],
     way: Way,
     seconds: &'a [u64],
     pairs: &'a [u64],
-    pair_order: &'a [usize],
-    pair_hints: &'a [u16],
-    pair_way: Way,
     n: usize,
     x: u64,
     y: u64,
-) -> bool
-    requires { ⌜ Ready (now firsts) (now order) (now hints) n way × (n ≤ length (now seconds)) × Pairs (now firsts) (now seconds) (now pairs) n × Ready (now pairs) (now «pair_order») (now «pair_hints») n «pair_way» × (y < wide) ⌝ }
-    ensures { λ r. ⌜ r ≡ any (λ j. eqb (getD (now (firsts .entry)) j 0) x && eqb (getD (now (seconds .entry)) j 0) y) n ⌝ }
+) -> u64
+    requires { ⌜ Ready (now firsts) (now order) (now hints) n way × Pairs (now firsts) (now seconds) (now pairs) n × (n ≤ length (now pairs)) × (y < wide) ⌝ }
+    ensures { λ r. ⌜ PairIs (now (firsts .entry)) (now (seconds .entry)) (now (pairs .entry)) n x y r ⌝ }
 {
     let found = look(firsts, order, hints, way, n, x);
-    let Found::At(j) = found else {
-        return false;
-    };
-    if seconds[j] == y {
-        return true;
+    match found {
+        Found::Nothing => NO_PAIR,
+        Found::At(j) => pairs[j] / WIDE * WIDE + y,
     }
-    is_there(
-        pairs,
-        pair_order,
-        pair_hints,
-        pair_way,
-        n,
-        pairs[j] / WIDE * WIDE + y,
-    )
 }

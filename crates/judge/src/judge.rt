@@ -1,4 +1,5 @@
 // The verdict on a delivery: seven files in, the counts and the first break out.
+use fifties::group::check_topology;
 use keys::group::check_keys;
 use record::check::check_fields;
 use record::check::check_shape;
@@ -9,7 +10,6 @@ use record::kind::Kind;
 use record::kind::Which;
 use record::kind::kind_of;
 use record::reason::Finding;
-use fifties::group::check_topology;
 ghost use mathlib.Core.Path.{_≡_};
 ghost use mathlib.Core.List.{List, map};
 ghost use Prim.Native.Nat.{ℕ};

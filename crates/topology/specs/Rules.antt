@@ -1,10 +1,11 @@
--- The rules of vertex numbering, line ends and nodes, and objects in use: one test for each of the reasons 50 to 57 and 59, true
+-- The rules of vertex numbering, line ends and nodes, and objects in use: one test for each of the reasons 50 to 59, true
 -- where the rule is broken at field f of record i (counted from 0) of file k (document 01, "What the reasons are").
 -- Assumes nothing.
 use Prim.Native.Nat.{ℕ, zero, suc, _+_, _-_, _%_, max}
 use mathlib.Core.Bool.{Bool, false, not, _&&_, _||_}
 use mathlib.Core.List.{List, [], _∷_}
 use lib.Dec.{ltb, eqb}
+use Rattle.laws.specs.Count.{howMany}
 use Rattle.laws.specs.Find.{firstIndex, any, names}
 use Rattle.laws.specs.Row.{pick}
 use Rattle.index.specs.Look.{keyLine}
@@ -13,7 +14,7 @@ use Rattle.record.specs.declared.kind.Kind.the-variants.{ObPun, ObLin, Tramo, V
 use Rattle.record.specs.declared.reason.Reason.{Reason}
 use Rattle.record.specs.declared.reason.Reason.the-variants as R
 use Rattle.record.specs.Table.{fileOf, xField}
-use Rattle.record.specs.Says.{Table, placeIn}
+use Rattle.record.specs.Says.{Table, letterIn, placeIn}
 use Rattle.record.specs.Files.{Delivery}
 use Rattle.record.specs.Names.{nameAt, vertexKey, keyOf}
 use Rattle.keys.specs.Rules.{orFirst}
@@ -124,16 +125,23 @@ pointElsewhere points nodes i =
 unfoldable pub breaks55 : Delivery → Kind → ℕ → ℕ → Bool
 breaks55 d k i f = isAt ObPun 3 k f && pointElsewhere (d ObPun) (d Nodo) i
 
--- 56: node starts or ends no tramo, has the X and Y of no vertex, and is named by no point object
-unfoldable pub nodeUsed : Table → Table → Table → Table → ℕ → Bool
-nodeUsed points tramos vertices nodes i =
-    names (tramoStart tramos) (tramos .count) (nameAt Nodo nodes i 1)
-    || (names (tramoEnd tramos) (tramos .count) (nameAt Nodo nodes i 1)
-    || (placed Vertice vertices (vertices .count) (xAt Nodo nodes i) (yAt Nodo nodes i)
-    || names (λ j. nameAt ObPun points j 3) (points .count) (nameAt Nodo nodes i 1)))
+-- a node that has the name starts or ends a tramo
+unfoldable pub endsTramo : Table → ℕ → Bool
+endsTramo tramos name = names (tramoStart tramos) (tramos .count) name || names (tramoEnd tramos) (tramos .count) name
+
+-- how many point objects name the node that has the name
+unfoldable pub namers : Table → ℕ → ℕ
+namers points name = howMany (λ j. eqb (nameAt ObPun points j 3) name) (points .count)
+
+-- 56: node starts or ends no tramo, has the X and Y of no vertex, and is named by fewer than two point objects
+unfoldable pub nodeIdle : Table → Table → Table → Table → ℕ → Bool
+nodeIdle points tramos vertices nodes i =
+    not (endsTramo tramos (nameAt Nodo nodes i 1))
+    && not (placed Vertice vertices (vertices .count) (xAt Nodo nodes i) (yAt Nodo nodes i))
+    && ltb (namers points (nameAt Nodo nodes i 1)) 2
 
 unfoldable pub breaks56 : Delivery → Kind → ℕ → ℕ → Bool
-breaks56 d k i f = isAt Nodo 0 k f && not (nodeUsed (d ObPun) (d Tramo) (d Vertice) (d Nodo) i)
+breaks56 d k i f = isAt Nodo 0 k f && nodeIdle (d ObPun) (d Tramo) (d Vertice) (d Nodo) i
 
 -- 57: linear object named by no tramo
 unfoldable pub objectIdle : Table → Table → ℕ → Bool
@@ -142,11 +150,48 @@ objectIdle objects tramos i = not (names (tramoObject tramos) (tramos .count) (n
 unfoldable pub breaks57 : Delivery → Kind → ℕ → ℕ → Bool
 breaks57 d k i f = isAt ObLin 0 k f && objectIdle (d ObLin) (d Tramo) i
 
+-- a line's first vertex is its vertex of order 1, its last the one of highest order
+unfoldable pub isTip : (ℕ → ℕ) → ℕ → ℕ → Bool
+isTip key n j = eqb (orderOf (key j)) 1 || eqb (key j) (highestIn key (keyLine (key j)) n)
+
+-- a vertex of which the test holds has this X and Y
+unfoldable pub vertexWith : (ℕ → Bool) → Table → ℕ → ℕ → Bool
+vertexWith test vertices x y = any (λ j. test j && (eqb (xAt Vertice vertices j) x && eqb (yAt Vertice vertices j) y)) (vertices .count)
+
+-- a node is an end: it starts or ends a tramo or has the X and Y of a line's first or last vertex
+unfoldable pub isEnd : Table → Table → Table → ℕ → Bool
+isEnd tramos vertices nodes i =
+    endsTramo tramos (nameAt Nodo nodes i 1)
+    || vertexWith (isTip (keyOf Vertice vertices) (vertices .count)) vertices (xAt Nodo nodes i) (yAt Nodo nodes i)
+
+-- and intermediate: it has those of another vertex
+unfoldable pub isMiddle : Table → Table → ℕ → Bool
+isMiddle vertices nodes i =
+    vertexWith (λ j. not (isTip (keyOf Vertice vertices) (vertices .count) j)) vertices (xAt Nodo nodes i) (yAt Nodo nodes i)
+
+-- which nodes a code of NODO TIPO agrees with: blank (0) with every one, A with an isolated one, C (connected) with one that is not isolated,
+-- E with an end that is not intermediate, I with an intermediate that is no end, H with one that is both
+unfoldable pub agrees : ℕ → Bool → Bool → Bool
+agrees code end middle =
+    eqb code 0
+    || eqb code 65 && not (end || middle)
+    || eqb code 67 && (end || middle)
+    || eqb code 69 && (end && not middle)
+    || eqb code 73 && (middle && not end)
+    || eqb code 72 && (end && middle)
+
+-- 58: the code disagrees with what the node is
+unfoldable pub disagrees : Table → Table → Table → ℕ → Bool
+disagrees tramos vertices nodes i = not (agrees (letterIn (nodes .says i 2)) (isEnd tramos vertices nodes i) (isMiddle vertices nodes i))
+
+unfoldable pub breaks58 : Delivery → Kind → ℕ → ℕ → Bool
+breaks58 d k i f = isAt Nodo 2 k f && disagrees (d Tramo) (d Vertice) (d Nodo) i
+
 -- 59: tramo whose line has no vertex of highest order
 unfoldable pub breaks59 : Delivery → Kind → ℕ → ℕ → Bool
 breaks59 d k i f = isAt Tramo 4 k f && eqb (highest (d Vertice) (tramoLine (d Tramo) i)) 0
 
--- the tests of a place, in the order of the reasons; there is no 58 in the base
+-- the tests of a place, in the order of the reasons
 unfoldable pub fifties : Delivery → Kind → ℕ → ℕ → List Bool
 fifties d k i f =
     breaks50 d k i f
@@ -157,11 +202,11 @@ fifties d k i f =
     ∷ breaks55 d k i f
     ∷ breaks56 d k i f
     ∷ breaks57 d k i f
-    ∷ false
+    ∷ breaks58 d k i f
     ∷ breaks59 d k i f
     ∷ []
 
--- the reasons; 54's with the number of the first earlier node at the place. What stands in 58's place is never shown
+-- the reasons; 54's with the number of the first earlier node at the place
 abbrev pub reasonsAt : Table → ℕ → List Reason
 reasonsAt nodes i =
     R.OrderGap50

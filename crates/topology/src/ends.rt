@@ -3,6 +3,7 @@ use crate::places::node_at;
 use crate::places::scan_node;
 use crate::places::x_at;
 use crate::places::y_at;
+use crate::used::count_in;
 use crate::used::put;
 use index::Found;
 use index::marks::as_mark;
@@ -25,7 +26,7 @@ ghost use Rattle.record.specs.Names.{nameAt, keyOf};
 ghost use Rattle.topology.specs.machinery.Ends.{endKey, isGone, apartAt, astrayAt};
 ghost use Rattle.record.specs.machinery.Columns.{Fills};
 ghost use Rattle.topology.specs.machinery.Places.{Positions};
-ghost use Rattle.topology.specs.machinery.Used.{Used};
+ghost use Rattle.topology.specs.machinery.Used.{Used, Counted};
 ghost use Rattle.topology.specs.Rules.{meets, elsewhere};
 
 // Whether a vertex with the key is where a node with the name is, by scanning.
@@ -281,8 +282,8 @@ fn is_astray<'a, 'b>(
     !node_at(nodo, ids, ranks, nodes, by, m, nx, ny, wanted, node, x, y)
 }
 
-// Marks, of n point objects, those that lie elsewhere than their node, by the columns of what they name and of X and Y. What they name is in
-// use.
+// Marks, of n point objects, those that lie elsewhere than their node, by the columns of what they name and of X and Y. How often a node is
+// named is counted.
 pub fn mark_astray<'a, 'b>(
     wanted: &'b [u64],
     xs: &'b [u64],
@@ -296,18 +297,18 @@ pub fn mark_astray<'a, 'b>(
     m: usize,
     nx: &'b [u64],
     ny: &'b [u64],
-    used: &mut [u8],
+    counts: &mut [u8],
     marks: &mut [u8],
 )
-    requires { ⌜ Ready (now ids) (now ranks) (now nodes) m by × Fills (now ids) (λ j. nameAt Kind.Nodo (tableOf (now nodo) Kind.Nodo) j 1) (tableOf (now nodo) Kind.Nodo .count) m × Positions (now nx) (now ny) Kind.Nodo (tableOf (now nodo) Kind.Nodo) m × (n ≤ length (now wanted)) × (n ≤ length (now xs)) × (n ≤ length (now ys)) × (n ≤ length (now marks)) × (m ≤ length (now used)) ⌝ }
+    requires { ⌜ Ready (now ids) (now ranks) (now nodes) m by × Fills (now ids) (λ j. nameAt Kind.Nodo (tableOf (now nodo) Kind.Nodo) j 1) (tableOf (now nodo) Kind.Nodo .count) m × Positions (now nx) (now ny) Kind.Nodo (tableOf (now nodo) Kind.Nodo) m × (n ≤ length (now wanted)) × (n ≤ length (now xs)) × (n ≤ length (now ys)) × (n ≤ length (now marks)) × Counted (now ids) (now ranks) (now nodes) (by .hinted) m (now counts) (listed (now wanted)) 0 ⌝ }
     ensures { λ _. ⌜ Marked (now (marks .entry)) (now (marks .exit)) (λ i. astrayAt (tableOf (now (nodo .entry)) Kind.Nodo) (getD (now (wanted .entry)) i 0) (getD (now (xs .entry)) i 0) (getD (now (ys .entry)) i 0)) n ⌝ }
-    ensures held { λ _. ⌜ Used (now (ids .entry)) (now (ranks .entry)) (now (nodes .entry)) (by .hinted) m (now (used .entry)) (now (used .exit)) (names (listed (now (wanted .entry))) n) ⌝ }
+    ensures counted { λ _. ⌜ Counted (now (ids .entry)) (now (ranks .entry)) (now (nodes .entry)) (by .hinted) m (now (counts .exit)) (listed (now (wanted .entry))) n ⌝ }
 {
     let mut i = 0;
     while i < n {
         let x = wanted[i];
         let node = look(ids, ranks, nodes, by, m, x);
-        put(node, used);
+        count_in(node, counts);
         marks[i] = as_mark(is_astray(
             nodo,
             ids,

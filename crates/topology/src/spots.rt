@@ -24,13 +24,7 @@ ghost use Rattle.topology.specs.machinery.Places.{spotOf, sameIn, Positi
 ghost use Rattle.topology.specs.machinery.Used.{};
 
 // X and Y of each record of a file.
-pub fn fill_positions(
-    s: &[u8],
-    k: Kind,
-    most: usize,
-    xs: &mut [u64],
-    ys: &mut [u64],
-) -> usize
+pub fn fill_positions(s: &[u8], k: Kind, most: usize, xs: &mut [u64], ys: &mut [u64]) -> usize
     requires { ⌜ (tableOf (now s) k .count ≤ most) × (most ≤ length (now xs)) × (most ≤ length (now ys)) ⌝ }
     ensures { λ r. ⌜ Positions (now (xs .exit)) (now (ys .exit)) k (tableOf (now (s .entry)) k) r ⌝ }
 {

@@ -1,6 +1,7 @@
 // The highest vertex of each line. Nothing is sorted: a look-up among the vertices' lines finds for each line always the same one of its
 // vertices, and what stands there in `tops` is the highest of the line's keys.
 use index::Found;
+use index::marks::as_mark;
 use index::way::Way;
 use index::way::look;
 use index::way::prepare;
@@ -10,12 +11,13 @@ ghost use mathlib.Core.Path.{_≡_};
 ghost use Prim.Native.Nat.{ℕ, _≤_, max};
 ghost use lib.ListN.{length, getD};
 ghost use Rattle.index.specs.Keys.{listed, room};
+ghost use Rattle.index.specs.Marks.{Marked};
 ghost use Rattle.index.specs.Way.{Ready};
 ghost use Rattle.record.specs.Says.{tableOf};
 ghost use Rattle.record.specs.machinery.Columns.{Fills};
 ghost use Rattle.topology.specs.machinery.Lent.{Holds};
 ghost use Rattle.topology.specs.machinery.Tops.{lineOf, Tops};
-ghost use Rattle.topology.specs.Rules.{highestIn, tramoLine};
+ghost use Rattle.topology.specs.Rules.{highestIn, tramoLine, isTip};
 
 // The lines of the first `n` vertices, whose keys are line * 100000 + order.
 pub(crate) fn fill_lines(keys: &[u64], n: usize, out: &mut [u64])
@@ -135,7 +137,30 @@ pub(crate) fn fill_ends<'a>(
     }
 }
 
-// The highest key of each tramo's line, with the keys of the n vertices in hand and room lent.
+// Marks the vertices that are a line's first, of order 1, or last, of highest order.
+fn mark_tips<'a>(
+    keys: &'a [u64],
+    lines: &'a [u64],
+    order: &'a [usize],
+    hints: &'a [u16],
+    way: Way,
+    tops: &'a [u64],
+    n: usize,
+    tips: &mut [u8],
+)
+    requires { ⌜ Tops (now keys) (now lines) (now order) (now hints) (now tops) n way n × (n ≤ length (now keys)) × (n ≤ length (now tips)) ⌝ }
+    ensures { λ _. ⌜ Marked (now (tips .entry)) (now (tips .exit)) (isTip (listed (now (keys .entry))) n) n ⌝ }
+{
+    let mut j = 0;
+    while j < n {
+        let key = keys[j];
+        let top = highest_of(keys, lines, order, hints, way, tops, n, lines[j]);
+        tips[j] = as_mark((key % 100000 == 1) | (key == top));
+        j += 1;
+    }
+}
+
+// The highest key of each tramo's line, and which vertices are a line's first or last, with the keys of the n vertices in hand and room lent.
 pub fn prepare_ends<'a, 'b>(
     tramo: &'a [u8],
     keys: &'b [u64],
@@ -145,12 +170,15 @@ pub fn prepare_ends<'a, 'b>(
     order: &mut [usize],
     tops: &mut [u64],
     named: &mut [u64],
+    tips: &mut [u8],
     out: &mut [u64],
 ) -> usize
-    requires { ⌜ (n ≤ room) × (n ≤ length (now keys)) × (n ≤ length (now lines)) × (n ≤ length (now order)) × (n ≤ length (now tops)) × (tableOf (now tramo) Kind.Tramo .count ≤ length (now named)) × (tableOf (now tramo) Kind.Tramo .count ≤ length (now out)) ⌝ }
+    requires { ⌜ (n ≤ room) × (n ≤ length (now keys)) × (n ≤ length (now lines)) × (n ≤ length (now order)) × (n ≤ length (now tops)) × (n ≤ length (now tips)) × (tableOf (now tramo) Kind.Tramo .count ≤ length (now named)) × (tableOf (now tramo) Kind.Tramo .count ≤ length (now out)) ⌝ }
     ensures { λ r. ⌜ Fills (now (out .exit)) (λ i. highestIn (listed (now (keys .entry))) (tramoLine (tableOf (now (tramo .entry)) Kind.Tramo) i) n) (tableOf (now (tramo .entry)) Kind.Tramo .count) r ⌝ }
+    ensures marked { λ _. ⌜ Marked (now (tips .entry)) (now (tips .exit)) (isTip (listed (now (keys .entry))) n) n ⌝ }
 {
     let way = prepare_tops(keys, n, lines, hints, order, tops);
+    mark_tips(keys, lines, order, hints, way, tops, n, tips);
     let t = fill_names(tramo, Kind::Tramo, 4, named);
     fill_ends(keys, lines, order, hints, way, tops, n, named, t, out);
     t

@@ -9,7 +9,7 @@ use index::way::look;
 use record::fill::fill_names;
 use record::kind::Kind;
 ghost use mathlib.Core.Path.{_≡_};
-ghost use Prim.Native.Nat.{_<_, _≤_};
+ghost use Prim.Native.Nat.{_+_, _<_, _≤_, min};
 ghost use lib.ListN.{length, getD};
 ghost use Rattle.laws.specs.Find.{names};
 ghost use Rattle.index.specs.Keys.{listed};
@@ -17,7 +17,7 @@ ghost use Rattle.index.specs.Look.{Sought, foundBelow};
 ghost use Rattle.index.specs.Way.{lookOf, Ready};
 ghost use Rattle.record.specs.Says.{tableOf};
 ghost use Rattle.record.specs.Names.{nameAt};
-ghost use Rattle.topology.specs.machinery.Used.{putAt, freeAt, Used, Unheld};
+ghost use Rattle.topology.specs.machinery.Used.{putAt, countAt, freeAt, Used, Unheld};
 
 // The record that was found is in use.
 pub(crate) fn put(found: Found, used: &mut [u8])
@@ -33,7 +33,7 @@ pub(crate) fn put(found: Found, used: &mut [u8])
 }
 
 // The records that m names name are in use.
-fn mark_named<'a>(
+pub(crate) fn mark_named<'a>(
     refs: &'a [u64],
     m: usize,
     ids: &'a [u64],
@@ -74,6 +74,26 @@ pub(crate) fn mark_used<'a, 'b>(
     mark_named(refs, m, ids, order, hints, way, n, used);
 }
 
+// One more, up to two.
+fn one_more(count: u8) -> u8
+    ensures { λ r. ⌜ r ≡ min 2 (count + 1) ⌝ }
+{
+    if count < 1 { 1 } else { 2 }
+}
+
+// The record that was found is named once more; more than two are as two.
+pub(crate) fn count_in(found: Found, counts: &mut [u8])
+    requires { ⌜ foundBelow found (length (now counts)) ⌝ }
+    ensures { λ _. ⌜ now (counts .exit) ≡ countAt (now (counts .entry)) found ⌝ }
+{
+    match found {
+        Found::Nothing => {}
+        Found::At(r) => {
+            counts[r] = one_more(counts[r]);
+        }
+    }
+}
+
 // The record that a look-up of id i finds. It is record i, and needs no look-up, where hints find every id and ids are known to differ.
 fn holder<'a>(
     ids: &'a [u64],
@@ -93,18 +113,18 @@ fn holder<'a>(
     look(ids, order, hints, way, n, ids[i])
 }
 
-// Whether the record that was found is not in use.
-fn is_free(found: Found, used: &[u8]) -> bool
+// Whether what stands at the record that was found is below a number.
+fn is_free(found: Found, used: &[u8], most: u8) -> bool
     requires { ⌜ foundBelow found (length (now used)) ⌝ }
-    ensures { λ r. ⌜ r ≡ freeAt (now (used .entry)) found ⌝ }
+    ensures { λ r. ⌜ r ≡ freeAt (now (used .entry)) most found ⌝ }
 {
     match found {
         Found::Nothing => true,
-        Found::At(r) => used[r] == 0,
+        Found::At(r) => used[r] < most,
     }
 }
 
-// Marks the records that are not in use: an id's record is the one that its look-up finds.
+// Marks the records at which less than a number stands, 1 for those that are not in use: an id's record is the one that its look-up finds.
 pub(crate) fn mark_unheld<'a>(
     ids: &'a [u64],
     order: &'a [usize],
@@ -112,15 +132,16 @@ pub(crate) fn mark_unheld<'a>(
     way: Way,
     n: usize,
     used: &'a [u8],
+    most: u8,
     marks: &mut [u8],
 )
     requires { ⌜ Ready (now ids) (now order) (now hints) n way × (n ≤ length (now used)) × (n ≤ length (now marks)) ⌝ }
-    ensures { λ _. ⌜ Unheld (now (ids .entry)) (now (order .entry)) (now (hints .entry)) (way .hinted) n (now (used .entry)) (now (marks .entry)) (now (marks .exit)) n ⌝ }
+    ensures { λ _. ⌜ Unheld (now (ids .entry)) (now (order .entry)) (now (hints .entry)) (way .hinted) n (now (used .entry)) most (now (marks .entry)) (now (marks .exit)) n ⌝ }
 {
     let mut i = 0;
     while i < n {
         let found = holder(ids, order, hints, way, n, i);
-        marks[i] = as_mark(is_free(found, used));
+        marks[i] = as_mark(is_free(found, used, most));
         i += 1;
     }
 }

@@ -1,30 +1,30 @@
 -- Machinery: which records are named, by a table of their ids. No promise cites this file.
 -- Assumes nothing.
-use Prim.Native.Nat.{ℕ, _<_, _≤_}
-use mathlib.Core.Bool.{Bool, true, not, _&&_, _||_}
+use Prim.Native.Nat.{ℕ, _+_, _<_, _≤_, min}
+use mathlib.Core.Bool.{Bool, true, not, _&&_}
 use mathlib.Core.List.{List}
 use mathlib.Core.Path.{_≡_}
-use lib.Dec.{eqb}
+use lib.Dec.{eqb, ltb}
 use lib.ListN.{length, getD, set}
-use Rattle.laws.specs.Find.{names}
-use Rattle.laws.specs.Count.{bit}
+use Rattle.laws.specs.Count.{bit, howMany}
 use Rattle.index.specs.Way.{lookOf}
 use Rattle.index.specs.declared.Found.{Found}
 use Rattle.index.specs.declared.Found.the-variants.{At, Nothing}
-use Rattle.record.specs.declared.kind.Kind.the-variants.{ObPun}
-use Rattle.record.specs.Says.{Table}
-use Rattle.record.specs.Names.{nameAt}
-use Rattle.topology.specs.Rules.{tramoStart, tramoEnd}
 
 -- 1 put at the record that was found
 abbrev pub putAt : List ℕ → Found → List ℕ
 putAt used Nothing = used
 putAt used (At r) = set used r 1
 
--- the record that was found is not in use
-abbrev pub freeAt : List ℕ → Found → Bool
-freeAt used Nothing = true
-freeAt used (At r) = eqb (getD used r 0) 0
+-- one more at the record that was found, up to 2
+abbrev pub countAt : List ℕ → Found → List ℕ
+countAt counts Nothing = counts
+countAt counts (At r) = set counts r (min 2 (getD counts r 0 + 1))
+
+-- less than a number stands at the record that was found
+abbrev pub freeAt : List ℕ → ℕ → Found → Bool
+freeAt used most Nothing = true
+freeAt used most (At r) = ltb (getD used r 0) most
 
 -- IN USE, by a look-up among n ids: the record that a look-up of x finds is 0 after exactly where it was 0 before and the test does not
 -- hold of x; the array keeps its length
@@ -38,24 +38,19 @@ pub record Named (ids order hints : List ℕ) (hinted : Bool) (n : ℕ) (used : 
   pub room : n ≤ length used
   pub marked : (x r : ℕ) → r < n → lookOf ids order hints hinted n x ≡ At r → eqb (getD used r 0) 0 ≡ not (test x)
 
--- the mark of a record says that the one which a look-up of its id x finds is not in use
-pub record Free (ids order hints : List ℕ) (hinted : Bool) (n : ℕ) (used : List ℕ) (x mark : ℕ) : Type 0 where
+-- the mark of a record says that less than a number stands at the one which a look-up of its id x finds
+pub record Free (ids order hints : List ℕ) (hinted : Bool) (n : ℕ) (used : List ℕ) (most x mark : ℕ) : Type 0 where
   pub at : ℕ
   pub within : at < n
   pub found : lookOf ids order hints hinted n x ≡ At at
-  pub says : mark ≡ bit (eqb (getD used at 0) 0)
+  pub says : mark ≡ bit (ltb (getD used at 0) most)
 
 -- MARKS of the first n records that say so; the array keeps its length
-pub record Unheld (ids order hints : List ℕ) (hinted : Bool) (n : ℕ) (used before after : List ℕ) (m : ℕ) : Type 0 where
+pub record Unheld (ids order hints : List ℕ) (hinted : Bool) (n : ℕ) (used : List ℕ) (most : ℕ) (before after : List ℕ) (m : ℕ) : Type 0 where
   pub long : length after ≡ length before
-  pub each : (i : ℕ) → i < m → Free ids order hints hinted n used (getD ids i 0) (getD after i 0)
+  pub each : (i : ℕ) → i < m → Free ids order hints hinted n used most (getD ids i 0) (getD after i 0)
 
--- a node with the id starts or ends a tramo
-unfoldable pub isEnd : Table → ℕ → Bool
-isEnd tramos x = names (tramoStart tramos) (tramos .count) x || names (tramoEnd tramos) (tramos .count) x
-
--- or is named by a point object
-unfoldable pub isNamed : Table → Table → ℕ → Bool
-isNamed points tramos x =
-    names (tramoStart tramos) (tramos .count) x
-    || (names (tramoEnd tramos) (tramos .count) x || names (λ j. nameAt ObPun points j 3) (points .count) x)
+-- COUNTED, by a look-up among n ids: at the record that a look-up of x finds stands how many of the first m names are x, or 2 where they are more
+pub record Counted (ids order hints : List ℕ) (hinted : Bool) (n : ℕ) (counts : List ℕ) (key : ℕ → ℕ) (m : ℕ) : Type 0 where
+  pub room : n ≤ length counts
+  pub each : (x r : ℕ) → r < n → lookOf ids order hints hinted n x ≡ At r → getD counts r 0 ≡ min 2 (howMany (λ j. eqb (key j) x) m)
