@@ -5,3 +5,4 @@ pub mod EndLaws
 pub mod SpotLaws
 pub mod UsedLaws
 pub mod IdleLaws
+pub mod SortLaws

@@ -217,7 +217,7 @@ reasonsAt nodes i =
     ∷ R.PointElsewhere55
     ∷ R.IdleNode56
     ∷ R.IdleObject57
-    ∷ R.LongFile10
+    ∷ R.NodeType58
     ∷ R.NoLastVertex59
     ∷ []
 

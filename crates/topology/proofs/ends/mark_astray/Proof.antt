@@ -1,11 +1,10 @@
--- `topology::ends::mark_astray` meets its contract. The loop's invariant: the marks of the point objects before `i` say 55, and what they name is in use.
+-- `topology::ends::mark_astray` meets its contract. The loop's invariant: the marks of the point objects before `i` say 55, and how often nodes are named is counted.
 -- Assumes nothing.
 use Prim.Native.Nat.{_≤_, _-_}
-use mathlib.Core.Path.{refl, ap, _∙_}
-use lib.ListN.{getD}
+use mathlib.Core.Path.{_≡_, refl, ap, _∙_}
+use lib.ListN.{length, getD}
 use native.Mathlib.Omega.{arith}
 use Rattle.laws.specs.Count.{bit}
-use Rattle.laws.specs.Find.{names}
 use Rattle.index.specs.Keys.{listed}
 use Rattle.index.specs.Marks.{Marked}
 use Rattle.index.proofs.LookLaws.{sought-below}
@@ -13,23 +12,24 @@ use Rattle.index.proofs.MarkLaws.{marked-start, marked-more, marked-end}
 use Rattle.record.specs.declared.kind.Kind.the-variants.{Nodo}
 use Rattle.record.specs.Says.{tableOf}
 use Rattle.topology.specs.machinery.Ends.{astrayAt}
-use Rattle.topology.specs.machinery.Used.{Used}
-use Rattle.topology.proofs.UsedLaws.{used-start, used-more, used-end}
+use Rattle.topology.specs.machinery.Used.{Counted}
+use Rattle.topology.proofs.UsedLaws.{count-long, counted-more, counted-end}
 use borrow.Author.Needs.{needs}
 use Rattle.topology.proofs.ends.mark_astray.Statement.{statement}
 use Rattle.topology.proofs.ends.mark_astray.Tie as tie
 
 abbrev Inv-loop : tie.InvT-loop
-Inv-loop wanted xs ys n nodo ids ranks nodes by m nx ny used₀ marks₀ i₀ used marks i =
+Inv-loop wanted xs ys n nodo ids ranks nodes by m nx ny counts₀ marks₀ i₀ counts marks i =
     (i ≤ n)
     × Marked marks₀ marks (λ j. astrayAt (tableOf nodo Nodo) (getD wanted j 0) (getD xs j 0) (getD ys j 0)) i
-    × Used ids ranks nodes (by .hinted) m used₀ used (names (listed wanted) i)
+    × Counted ids ranks nodes (by .hinted) m counts (listed wanted) i
+    × (length counts ≡ length counts₀)
 
 abbrev μ-loop : tie.MeasureT-loop
-μ-loop wanted xs ys n nodo ids ranks nodes by m nx ny used₀ marks₀ i₀ used marks i = n - i
+μ-loop wanted xs ys n nodo ids ranks nodes by m nx ny counts₀ marks₀ i₀ counts marks i = n - i
 
 loop-holds : tie.Need-loop-holds Inv-loop μ-loop
-loop-holds c = (omega arith, marked-start _ _, used-start _ _)
+loop-holds c = (omega arith, marked-start _ _, c .before .before .before .before .before .before .before .before .before .before .before .pre .7, refl)
 
 mul-x : tie.Need-mul-x Inv-loop μ-loop
 mul-x c = omega (arith, c .before .before .before .before .before .before .before .before .before .before .before .before .before .pre .3)
@@ -40,8 +40,8 @@ shared-slice-read-x c = omega (arith, c .before .before .before .before .before 
 look-requires : tie.Need-look-requires Inv-loop μ-loop
 look-requires c κs = c .before .before .before .before .before .before .before .before .before .before .before .before .before .before .pre .0
 
-put-requires : tie.Need-put-requires Inv-loop μ-loop
-put-requires c κs = sought-below _ _ _ _ (c .before .look .ensures .0) (omega (arith, c .before .before .before .before .before .before .before .before .before .before .before .before .before .before .before .before .pre .7, c .before .before .before .before .loop .inv .2 .long))
+count-in-requires : tie.Need-count-in-requires Inv-loop μ-loop
+count-in-requires c κs = sought-below _ _ _ _ (c .before .look .ensures .0) (c .before .before .before .before .loop .inv .2 .room)
 
 mul-is-astray : tie.Need-mul-is-astray Inv-loop μ-loop
 mul-is-astray c =
@@ -103,17 +103,18 @@ loop-again c =
     let found = c8 .look .ensures in (
       omega (arith, c10 .loop-test .taken),
       marked-more (omega (arith, c10 .loop-test .taken, l .1 .long, p .6)) (c .as-mark .ensures ∙ ap bit (c1 .is-astray .ensures)) (l .1),
-      used-more _ _ (l .2) (p .7) refl (found .0) (found .1) (c6 .put .ensures),
+      counted-more _ (l .2) refl (found .0) (found .1) (c6 .count-in .ensures),
+      omega (arith, ap length (c6 .count-in .ensures) ∙ count-long (c11 .loop .counts) (c8 .look .result), l .3),
     )
 
 same-length : tie.Need-same-length Inv-loop μ-loop
-same-length c = c .before .loop .inv .2 .long
+same-length c = c .before .loop .inv .3
 
 same-length-2 : tie.Need-same-length-2 Inv-loop μ-loop
 same-length-2 c = c .before .loop .inv .1 .long
 
 returns : tie.Need-returns Inv-loop μ-loop
-returns c = (marked-end _ refl (c .loop-test .left) (c .before .loop .inv .1), used-end _ _ (c .before .loop .inv .0) (c .loop-test .left) refl (c .before .loop .inv .2))
+returns c = (marked-end _ refl (c .loop-test .left) (c .before .loop .inv .1), counted-end (c .before .loop .inv .0) (c .loop-test .left) (c .before .loop .inv .2))
 
 pub mark-astray-spec : {M : Type 1} → statement M
 mark-astray-spec =
@@ -125,7 +126,7 @@ mark-astray-spec =
     mul-x
     shared-slice-read-x
     look-requires
-    put-requires
+    count-in-requires
     mul-is-astray
     shared-slice-read-is-astray
     mul-is-astray-2

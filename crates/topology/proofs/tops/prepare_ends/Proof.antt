@@ -1,61 +1,58 @@
--- `topology::tops::prepare_ends` meets its contract. The lines are those of the column that was read.
--- Assumes nothing.
 use native.Mathlib.Omega.{arith}
 use Rattle.record.proofs.ColumnLaws.{read-fills}
 use Rattle.topology.proofs.TopLaws.{ends-filled}
 use borrow.Author.Needs.{needs}
 use Rattle.topology.proofs.tops.prepare_ends.Statement.{statement}
 use Rattle.topology.proofs.tops.prepare_ends.Tie as tie
+use Rattle.topology.proofs.tops.prepare_ends.Reads as reads
+use Rattle.topology.proofs.tops.prepare_ends.Lts as lts
+use Rattle.record.proofs.fill.fill_names.Reads as fill-names-reads
+use Rattle.topology.proofs.tops.fill_ends.Reads as fill-ends-reads
+use Rattle.topology.proofs.tops.mark_tips.Reads as mark-tips-reads
+use Rattle.topology.proofs.tops.prepare_tops.Reads as prepare-tops-reads
 
 prepare-tops-requires : tie.Need-prepare-tops-requires
-prepare-tops-requires c κs =
-    let p = c .before .before .before .before .before .before .before .before .before .before .before .before .pre in
-    (p .0, p .1, p .2, p .3, p .4)
+prepare-tops-requires c κs = search needs
+
+mark-tips-requires : tie.Need-mark-tips-requires
+mark-tips-requires c κs = search needs
 
 fill-names-requires : tie.Need-fill-names-requires
 fill-names-requires c κs = search needs
 
 fill-ends-requires : tie.Need-fill-ends-requires
-fill-ends-requires c κs =
-    let c8 = c .before .before .before .before .before .before .before .before in
-    let c18 = c8 .before .before .before .before .before .before .before .before .before .before in
-    let c31 = c18 .before .before .before .before .before .before .before .before .before .before .before .before .before in
-    let p = c31 .pre in
-    let f = read-fills (p .5) (c8 .fill-names .ensures) in
-    (c18 .prepare-tops .ensures, omega (arith, f .count, f .long), omega (arith, f .count, p .6))
+fill-ends-requires c κs = let f = read-fills (c .before .before .before .before .before .before .before .before .before .before .before .before .before .before .before .before .before .before .before .before .before .before .before .before .before .before .before .before .before .before .before .before .before .before .before .before .before .before .before .before .pre .6) (c .before .before .before .before .before .before .before .before .fill-names .ensures) in (c .before .before .before .before .before .before .before .before .before .before .before .before .before .before .before .before .before .before .before .before .before .before .before .before .before .before .prepare-tops .ensures, omega (arith, f .count, f .long), omega (arith, f .count, c .before .before .before .before .before .before .before .before .before .before .before .before .before .before .before .before .before .before .before .before .before .before .before .before .before .before .before .before .before .before .before .before .before .before .before .before .before .before .before .before .pre .7))
 
 same-length : tie.Need-same-length
-same-length c = omega (arith, c .before .before .before .before .before .before .before .before .before .before .before .before .before .before .before .before .before .before .before .before .lines .given)
+same-length c = search needs
 
 same-length-2 : tie.Need-same-length-2
-same-length-2 c = omega (arith, c .before .before .before .before .before .before .before .before .before .before .before .before .before .before .before .before .before .before .hints .given)
+same-length-2 c = search needs
 
 same-length-3 : tie.Need-same-length-3
-same-length-3 c = omega (arith, c .before .before .before .before .before .before .before .before .before .before .before .before .before .before .before .before .order .given)
+same-length-3 c = search needs
 
 same-length-4 : tie.Need-same-length-4
-same-length-4 c = omega (arith, c .before .before .before .before .before .before .before .before .before .before .before .before .before .before .tops .given)
+same-length-4 c = search needs
 
 same-length-5 : tie.Need-same-length-5
-same-length-5 c = omega (arith, c .before .before .before .before .before .before .before .before .before .before .named .given)
+same-length-5 c = search needs
 
 same-length-6 : tie.Need-same-length-6
-same-length-6 c = omega (arith, c .before .out .given)
+same-length-6 c = search needs
+
+same-length-7 : tie.Need-same-length-7
+same-length-7 c = search needs
 
 returns : tie.Need-returns
-returns c =
-    let c1 = c .before in
-    let c2 = c1 .before in
-    let c11 = c2 .before .before .before .before .before .before .before .before .before in
-    let c34 = c11 .before .before .before .before .before .before .before .before .before .before .before .before .before .before .before .before .before .before .before .before .before .before .before in
-    let p = c34 .pre in
-    ends-filled (c34 .args .keys .now) (c34 .args .n) (read-fills (p .5) (c11 .fill-names .ensures)) (omega (arith, c1 .out .given, p .6)) (c2 .fill-ends .ensures)
+returns c = (ends-filled (c .before .before .before .before .before .before .before .before .before .before .before .before .before .before .before .before .before .before .before .before .before .before .before .before .before .before .before .before .before .before .before .before .before .before .before .before .before .before .before .before .before .before .before .args .keys .now) (c .before .before .before .before .before .before .before .before .before .before .before .before .before .before .before .before .before .before .before .before .before .before .before .before .before .before .before .before .before .before .before .before .before .before .before .before .before .before .before .before .before .before .before .args .n) (read-fills (c .before .before .before .before .before .before .before .before .before .before .before .before .before .before .before .before .before .before .before .before .before .before .before .before .before .before .before .before .before .before .before .before .before .before .before .before .before .before .before .before .before .before .before .pre .6) (c .before .before .before .before .before .before .before .before .before .before .before .fill-names .ensures)) (omega (arith, c .before .out .given, c .before .before .before .before .before .before .before .before .before .before .before .before .before .before .before .before .before .before .before .before .before .before .before .before .before .before .before .before .before .before .before .before .before .before .before .before .before .before .before .before .before .before .before .pre .7)) (c .before .before .fill-ends .ensures), c .before .before .before .before .before .before .before .before .before .before .before .before .before .before .before .mark-tips .ensures)
 
 pub prepare-ends-spec : {M : Type 1} → statement M
 prepare-ends-spec =
     tie.close
     (tie.spec
     prepare-tops-requires
+    mark-tips-requires
     fill-names-requires
     fill-ends-requires
     same-length
@@ -64,4 +61,5 @@ prepare-ends-spec =
     same-length-4
     same-length-5
     same-length-6
+    same-length-7
     returns)

@@ -18,7 +18,7 @@ returns : tie.Need-returns
 returns c = search needs
 
 returns-2 : tie.Need-returns-2
-returns-2 c = free-at _ (c .before .before .found .given .1)
+returns-2 c = free-at _ _ (c .before .before .found .given .1)
 
 pub is-free-spec : {M : Type 1} → statement M
 is-free-spec =

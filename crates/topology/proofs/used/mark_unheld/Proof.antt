@@ -12,10 +12,10 @@ use Rattle.topology.proofs.used.mark_unheld.Statement.{statement}
 use Rattle.topology.proofs.used.mark_unheld.Tie as tie
 
 abbrev Inv-loop : tie.InvT-loop
-Inv-loop ids order hints way n used marks₀ i₀ marks i = Unheld ids order hints (way .hinted) n used marks₀ marks i
+Inv-loop ids order hints way n used most marks₀ i₀ marks i = Unheld ids order hints (way .hinted) n used most marks₀ marks i
 
 abbrev μ-loop : tie.MeasureT-loop
-μ-loop ids order hints way n used marks₀ i₀ marks i = n - i
+μ-loop ids order hints way n used most marks₀ i₀ marks i = n - i
 
 loop-holds : tie.Need-loop-holds Inv-loop μ-loop
 loop-holds c = unheld-start _
