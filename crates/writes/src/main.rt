@@ -177,6 +177,8 @@ fn nodes() {
     show(b"node id 0", 7, number(v, 1, 0));
     case(b"node X missing", 7, no(v, 4));
     case(b"node nothing given", 7, none());
+    case(b"node TIPO A0", 7, text(v, 2, b"\xA0"));
+    case(b"node TIPO A1", 7, text(v, 2, b"\xA1"));
 }
 
 fn files() {
@@ -219,6 +221,11 @@ fn names() {
     case(b"name with A0", 4, named(b"A\xA0B"));
     show(b"name missing", 4, named(b""));
     show(b"name NA", 4, named(b"NA"));
+    case(b"name A0 first", 4, named(b"\xA0A"));
+    case(b"name A0 last", 4, named(b"A\xA0"));
+    case(b"name of A0", 4, named(b"\xA0"));
+    case(b"name NA and A0", 4, named(b"NA\xA0"));
+    case(b"name A1 first and last", 4, named(b"\xA1A\xA1"));
 }
 
 fn codes() {
@@ -226,6 +233,8 @@ fn codes() {
     case(b"code NA", 4, line(b"NA", b"a"));
     case(b"code ND", 4, line(b"ND", b"a"));
     show(b"code na", 4, line(b"na", b"a"));
+    case(b"code NA and A0", 4, line(b"NA\xA0", b"a"));
+    case(b"code with A0", 4, line(b"NA\xA0A", b"a"));
 }
 
 fn centroids() {
@@ -253,6 +262,8 @@ fn catalogue() {
     case(b"catalogue TIPO Q", 1, catalogued(b"Q"));
     case(b"catalogue TIPO missing", 1, catalogued(b""));
     show(b"catalogue TIPO T", 1, catalogued(b"T"));
+    case(b"catalogue TIPO A0", 1, catalogued(b"\xA0"));
+    case(b"catalogue TIPO A1", 1, catalogued(b"\xA1"));
 }
 
 fn tramo(sense: &[u8]) -> Values {
@@ -265,6 +276,8 @@ fn tramos() {
     case(b"tramo sense x", 5, tramo(b"x"));
     show(b"tramo sense blank", 5, tramo(b""));
     show(b"tramo sense -", 5, tramo(b"-"));
+    case(b"tramo sense A0", 5, tramo(b"\xA0"));
+    case(b"tramo sense A1", 5, tramo(b"\xA1"));
 }
 
 fn vertices() {
