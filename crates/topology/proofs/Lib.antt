@@ -4,4 +4,5 @@ pub mod OrderRules
 pub mod EndLaws
 pub mod SpotLaws
 pub mod UsedLaws
+pub mod SpottedLaws
 pub mod IdleLaws
