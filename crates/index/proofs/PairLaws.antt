@@ -1,7 +1,7 @@
 -- The laws of two columns as one (specs/Pairs.antt).
 -- Assumes nothing.
 use Prim.Native.Nat.{ℕ, _+_, _*_, _/_, _<_, _≤_}
-use mathlib.Core.Bool.{Bool, true, false, _&&_}
+use mathlib.Core.Bool.{Bool, false, _&&_}
 use mathlib.Core.List.{List}
 use mathlib.Core.Logic.{⊎-elim}
 use mathlib.Core.Path.{_≡_, refl, sym, ap, ap₂, subst, _∙_}
@@ -9,14 +9,12 @@ use native.Mathlib.Omega.{arith}
 use lib.Dec.{eqb}
 use lib.ListN.{length, getD, set}
 use lib.Seq.{getD-set-same, getD-set-other}
-use borrow.Author.Tests.{eq-eqb, ne-eqb}
+use borrow.Author.Tests.{ne-eqb}
 use Rattle.laws.specs.Row.{Narrow}
-use Rattle.laws.specs.Find.{any, names}
-use Rattle.laws.proofs.FindLaws.{any-true, any-false, any-same}
-use Rattle.index.specs.Keys.{room, listed}
+use Rattle.index.specs.Keys.{room}
 use Rattle.index.specs.Look.{Sought}
 use Rattle.index.specs.Way.{Stands}
-use Rattle.index.specs.Pairs.{wide, Joined, Pairs}
+use Rattle.index.specs.Pairs.{wide, Joined, Pairs, PairIs}
 use Rattle.index.specs.declared.Found.{Found}
 use Rattle.index.specs.declared.Found.the-variants.{At, Nothing}
 use Rattle.index.proofs.LookLaws.{pair-same}
@@ -79,36 +77,31 @@ pairs {firsts} {seconds} {numbers} {out} {n} small s w j =
     number : (e : ℕ) → e < n → getD out e 0 / wide ≡ getD numbers e 0
     number e l = ap (λ (x : ℕ). x / wide) (j .each e l) ∙ part (getD numbers e 0) (getD seconds e 0) (w .below e l)
 
--- A PAIR IS THERE: not where no record has the first part,
-module _ (firsts seconds : List ℕ) (n x y : ℕ) where
-  abbrev pub hasPair : ℕ → Bool
-  hasPair j = eqb (getD firsts j 0) x && eqb (getD seconds j 0) y
+-- THE NUMBER OF A PAIR: where no record has the first part, one that no pair has,
+abbrev pub noPair : ℕ
+noPair = 18014398509481984
 
-  pub no-first : {f : Found} → Sought firsts n x f → f ≡ Nothing → false ≡ any hasPair n
-  unfolding Sought
-  no-first s e =
-      let h = subst (λ (f : Found). Sought firsts n x f) e s in
-      sym (any-false hasPair n (λ k l. ap (λ (t : Bool). t && eqb (getD seconds k 0) y) (ne-eqb (getD firsts k 0) x (h k l))))
+pub no-pair : {firsts seconds out : List ℕ} {n : ℕ} (j : ℕ) → Pairs firsts seconds out n → j < n → eqb (getD out j 0) noPair ≡ false
+no-pair {out = out} j p l = let h = p .small j l in ne-eqb (getD out j 0) noPair (λ (e : getD out j 0 ≡ noPair). omega arith)
 
-  -- where the record found has the second too,
-  pub first-and-second : {f : Found} {j : ℕ} → Sought firsts n x f → f ≡ At j → getD seconds j 0 ≡ y → true ≡ any hasPair n
-  unfolding Sought
-  first-and-second {f} {j} s e q =
-      let h = subst (λ (f : Found). Sought firsts n x f) e s in
-      sym (any-true hasPair n (h .0) (ap₂ _&&_ (eq-eqb (getD firsts j 0) x (h .1)) (eq-eqb (getD seconds j 0) y q)))
+pub pair-nowhere :
+    {firsts seconds out : List ℕ} {n x y : ℕ} {f : Found} → Pairs firsts seconds out n → Sought firsts n x f → f ≡ Nothing
+    → PairIs firsts seconds out n x y noPair
+unfolding Sought
+pair-nowhere {firsts} {seconds} {n = n} {x} {y} p s e =
+    let h = subst (λ (f : Found). Sought firsts n x f) e s in
+    record { each = λ k l. no-pair k p l ∙ sym (ap (λ (t : Bool). t && eqb (getD seconds k 0) y) (ne-eqb (getD firsts k 0) x (h k l))) }
 
-  -- and else where the pair's number is
-  pub pair-there :
-      {f : Found} {j : ℕ} {out : List ℕ} {r : Bool} → Sought firsts n x f → f ≡ At j → Pairs firsts seconds out n → y < wide
-      → r ≡ names (listed out) n (getD out j 0 / wide * wide + y) → r ≡ any hasPair n
-  unfolding Sought
-  pair-there {f} {j} {out} s e p ly q =
-      let h = subst (λ (f : Found). Sought firsts n x f) e s in
-      q
-      ∙ any-same _ hasPair n
-      (λ k l. p .same k j y l (h .0) ly ∙ ap (λ (z : ℕ). eqb (getD firsts k 0) z && eqb (getD seconds k 0) y) (h .1))
+-- and else that of the record found, with the second part in its place
+pub pair-found :
+    {firsts seconds out : List ℕ} {n x y j : ℕ} {f : Found} → Pairs firsts seconds out n → y < wide → Sought firsts n x f → f ≡ At j
+    → PairIs firsts seconds out n x y (getD out j 0 / wide * wide + y)
+unfolding Sought
+pair-found {firsts} {seconds} {n = n} {x} {y} {j} p ly s e =
+    let h = subst (λ (f : Found). Sought firsts n x f) e s in
+    record { each = λ k l. p .same k j y l (h .0) ly ∙ ap (λ (z : ℕ). eqb (getD firsts k 0) z && eqb (getD seconds k 0) y) (h .1) }
 
--- the found record is one of n, and its number is small
+-- the found record is one of n
 pub found-within : (keys : List ℕ) (n x : ℕ) {f : Found} {j : ℕ} → Sought keys n x f → f ≡ At j → j < n
 unfolding Sought
 found-within keys n x s e = subst (λ (f : Found). Sought keys n x f) e s .0

@@ -4,16 +4,12 @@ use crate::Found;
 use crate::numbers::fill_numbers;
 use crate::way::Way;
 use crate::way::look;
-ghost use mathlib.Core.Path.{_≡_};
-ghost use mathlib.Core.Bool.{_&&_};
-ghost use Prim.Native.Nat.{ℕ, _<_, _≤_};
-ghost use lib.Dec.{eqb};
-ghost use lib.ListN.{length, getD};
-ghost use Rattle.laws.specs.Find.{any};
+ghost use Prim.Native.Nat.{_<_, _≤_};
+ghost use lib.ListN.{length};
 ghost use Rattle.laws.specs.Row.{Narrow};
 ghost use Rattle.index.specs.Keys.{room};
 ghost use Rattle.index.specs.Way.{Ready};
-ghost use Rattle.index.specs.Pairs.{wide, Joined, Pairs};
+ghost use Rattle.index.specs.Pairs.{wide, Joined, Pairs, PairIs};
 
 // Second parts are below this.
 pub const WIDE: u64 = 1099511627776;

@@ -4,5 +4,6 @@ pub mod OrderRules
 pub mod EndLaws
 pub mod SpotLaws
 pub mod UsedLaws
+pub mod SpottedLaws
 pub mod IdleLaws
 pub mod SortLaws
