@@ -52,7 +52,7 @@ none-lent f (x ∷ l) e = absurd (omega arith)
 
 -- WHAT A REASON CARRIES: nothing, where it is none of 30, 41 and 54
 abbrev plain : List ℕ
-plain = 0 ∷ 1 ∷ 2 ∷ 3 ∷ 4 ∷ 5 ∷ 6 ∷ 7 ∷ 9 ∷ 11 ∷ 12 ∷ 13 ∷ 14 ∷ 16 ∷ 17 ∷ 18 ∷ 19 ∷ 20 ∷ 21 ∷ 22 ∷ 23 ∷ 24 ∷ 25 ∷ 26 ∷ 27 ∷ []
+plain = 0 ∷ 1 ∷ 2 ∷ 3 ∷ 4 ∷ 5 ∷ 6 ∷ 7 ∷ 9 ∷ 11 ∷ 12 ∷ 13 ∷ 14 ∷ 16 ∷ 17 ∷ 18 ∷ 19 ∷ 20 ∷ 21 ∷ 22 ∷ 23 ∷ 24 ∷ 25 ∷ 26 ∷ 27 ∷ 28 ∷ []
 
 pub other-none : (reason : Reason) → OneOf plain (tagOf the-type reason) → 0 ≡ otherOf reason
 other-none R.LongFile10 h = refl
@@ -74,6 +74,7 @@ other-none (R.SamePlace54 x) h = absurd (miss plain 15 tt h)
 other-none R.PointElsewhere55 h = refl
 other-none R.IdleNode56 h = refl
 other-none R.IdleObject57 h = refl
+other-none R.NodeType58 h = refl
 other-none R.NoLastVertex59 h = refl
 other-none R.NoFile60 h = refl
 other-none R.ShortRoom61 h = refl
@@ -105,6 +106,7 @@ numbered (R.SamePlace54 x) = refl
 numbered R.PointElsewhere55 = refl
 numbered R.IdleNode56 = refl
 numbered R.IdleObject57 = refl
+numbered R.NodeType58 = refl
 numbered R.NoLastVertex59 = refl
 numbered R.NoFile60 = refl
 numbered R.ShortRoom61 = refl

@@ -34,7 +34,7 @@ use Rattle.record.specs.Cut.{countOf, recordOf, textOf}
 use Rattle.record.specs.Says.{saidAs, saidIn, letterIn, missing, text}
 use Rattle.record.specs.Files.{Files, Delivery, deliveryOf}
 use Rattle.record.specs.Names.{nameAt}
-use Rattle.record.specs.Rules.{twenties, notNumber, breaks22, breaks23, breaks25, missingIn, inDomain, outside}
+use Rattle.record.specs.Rules.{twenties, notNumber, breaks22, breaks23, breaks25, missingIn, wordWithin, inDomain, outside}
 use Rattle.record.specs.Breaks.{numberOf, tenReasons, twentyReasons, there, testsAt, broken}
 use Rattle.keys.specs.machinery.Groups.{brokenBy}
 use Rattle.keys.specs.Rules.{orFirst, firstWith, refersToCatalogue, mistyped, typedIn, breaks41, keyTests, keyReasons}
@@ -76,8 +76,8 @@ earlier-fitting : (p : ℕ → Bool) (i : ℕ) → i ≤ limit → (leb (suc (or
 earlier-fitting p i l = true-and _ true (le-leb (suc (orFirst (firstIndex p (i - 1)))) limit (earlier-fits p i l)) refl
 
 -- A LETTER in the domain
-in-domain-small : (t : List ℕ) → inDomain ObjectType t ≡ true → getD t 0 0 ≤ 255
-unfolding inDomain
+in-domain-small : (t : List ℕ) → wordWithin ObjectType t ≡ true → getD t 0 0 ≤ 255
+unfolding wordWithin
 in-domain-small t e = go (decLt 255 (getD t 0 0))
   where
     go : Dec (255 < getD t 0 0) → getD t 0 0 ≤ 255
@@ -90,9 +90,9 @@ in-domain-small t e = go (decLt 255 (getD t 0 0))
           ne-eqb (getD t 0 0) 84 (λ q. omega (arith, h, q)),
         ) at e)))
 
-not-outside : (t next : List ℕ) → outside Words ObjectType t next ≡ false → inDomain ObjectType t ≡ true
-unfolding outside
-not-outside t next e = go (inDomain ObjectType t) e
+not-outside : (t next : List ℕ) → outside Words ObjectType t next ≡ false → wordWithin ObjectType t ≡ true
+unfolding inDomain outside
+not-outside t next e = go (wordWithin ObjectType t) e
   where
     go : (b : Bool) → (not b || false) ≡ false → b ≡ true
     go true h = refl

@@ -31,6 +31,7 @@ otherOf (R.SamePlace54 earlier) = earlier
 otherOf R.PointElsewhere55 = 0
 otherOf R.IdleNode56 = 0
 otherOf R.IdleObject57 = 0
+otherOf R.NodeType58 = 0
 otherOf R.NoLastVertex59 = 0
 otherOf R.NoFile60 = 0
 otherOf R.ShortRoom61 = 0

@@ -26,7 +26,7 @@ use Rattle.record.specs.declared.kind.Domain.the-variants.{Any, PlusMinus}
 use Rattle.record.specs.declared.kind.Form.the-variants.{Words, Code, Sign, Number, Size}
 use Rattle.record.specs.Table.{isN, widest}
 use Rattle.record.specs.machinery.Packed.{formDigit, formOf}
-use Rattle.record.specs.Rules.{notNumber, notText, missingIn, inDomain, outside, isSignByte}
+use Rattle.record.specs.Rules.{notNumber, notText, missingIn, wordWithin, numberWithin, inDomain, outside, isSignByte}
 use Rattle.record.specs.Says.{Said, missing, number, text, coordinate, textSaid, saidAs, isMissing}
 use Rattle.record.proofs.PackedLaws.{form-digit, formDomain}
 use Rattle.record.proofs.RuleLaws.{domain-first}
@@ -123,23 +123,24 @@ was-missing Sign t b next s h = absurd (s refl)
 was-missing Number t b next s h = blank-missing (allOf Blank t) false (number (numberWritten t)) refl h
 was-missing Size t b next s h = absurd (true-false (sym h))
 
--- nor is it outside where the bytes are not; only words have a domain that is read, and of their first byte
-within-words : (d : Domain) (t : List ℕ) → allOf Blank t ≡ false → (not (inDomain d t) || false) ≡ false → not (inDomain d (trimmed t)) ≡ false
-within-words d t h e = ap not (domain-first d (trimmed t) t (trimmed-first t (trimmed-some t h))) ∙ sym (or-false (not (inDomain d t))) ∙ e
+-- nor is it outside where the bytes are not: words by their first byte, numbers as they are written
+within-words : (d : Domain) (t : List ℕ) → allOf Blank t ≡ false → (not (wordWithin d t) || false) ≡ false → not (wordWithin d (trimmed t)) ≡ false
+within-words d t h e = ap not (domain-first d (trimmed t) t (trimmed-first t (trimmed-some t h))) ∙ sym (or-false (not (wordWithin d t))) ∙ e
 
 never-outside : (d : Domain) → d ≡ Any → (x : Said) → outsideSaid d x ≡ false
-unfolding inDomain
+unfolding wordWithin numberWithin
 never-outside d e missing = refl
-never-outside d e (number n) = refl
+never-outside d e (number n) = rw e
 never-outside d e (text t) = rw e
 never-outside d e (coordinate z) = refl
 
 pub not-outside : (form : Form) (d : Domain) (t b next : List ℕ) → d ≡ formDomain form d → (missingIn form t ≡ false → outside form d t next ≡ false) → outsideSaid d (saidAs form t b) ≡ false
-unfolding saidAs missingIn outside
+unfolding saidAs missingIn inDomain outside
 not-outside Words d t b next fits e = picked (λ x. outsideSaid d x ≡ false) (allOf Blank t) missing (text (trimmed t)) (λ _. refl) (λ h. within-words d t h (e (rw h)))
 not-outside Code d t b next fits e = never-outside d fits (saidAs Code t b)
 not-outside Sign d t b next fits e = refl
-not-outside Number d t b next fits e = never-outside d fits (saidAs Number t b)
+not-outside Number d t b next fits e =
+    picked (λ x. outsideSaid d x ≡ false) (allOf Blank t) missing (number (numberWritten t)) (λ _. refl) (λ h. sym (or-false (not (numberWithin d (numberWritten t)))) ∙ e (rw h))
 not-outside Size d t b next fits e = never-outside d fits (saidAs Size t b)
 
 -- A SIGN, which is blank where its number n is: it is written as its coordinate's
@@ -152,7 +153,7 @@ sign-byte z c e q = rw q (go (eqb c 45) refl e)
 
 one-sign : (c : ℕ) (n : List ℕ) → length n ≤ 10 → allOf Digit n ≡ true → outside Sign PlusMinus (c ∷ []) n ≡ false
     → padded 1 (signByte (signed (eqb c 45) (numberWritten n)) ∷ []) ≡ c ∷ []
-unfolding inDomain outside padded
+unfolding wordWithin inDomain outside padded
 one-sign c n l d o =
     let p = neither (not (isSignByte c)) (eqb c 45 && allOf Zero n) o in
     let zero-minus : eqb c 45 ≡ true → numberWritten n ≡ 0 → ⊥ =

@@ -12,7 +12,7 @@ use lib.ListN.{length, getD}
 use borrow.Author.Tests.{ltb-true, ltb-false, not-false, ne-eqb}
 use Rattle.laws.specs.Row.{pick, each}
 use Rattle.laws.proofs.FindLaws.{true-false}
-use Rattle.laws.proofs.RowLaws.{neither}
+use Rattle.laws.proofs.RowLaws.{neither, picked}
 use Rattle.field.specs.declared.class.Class.the-variants.{Blank, Digit, Zero, Text}
 use Rattle.field.specs.Bytes.{allOf, blanks}
 use Rattle.field.specs.Digits.{digits, numberWritten}
@@ -27,7 +27,7 @@ use Rattle.record.specs.declared.kind.Domain.{Domain}
 use Rattle.record.specs.declared.kind.Domain.the-variants.{Any, PlusMinus}
 use Rattle.record.specs.declared.kind.Form.the-variants.{Words, Code, Sign, Number, Size}
 use Rattle.record.specs.Table.{isN}
-use Rattle.record.specs.Rules.{notNumber, notText, missingIn, isSignByte, inDomain, outside}
+use Rattle.record.specs.Rules.{notNumber, notText, missingIn, isSignByte, wordWithin, numberWithin, inDomain, outside}
 use Rattle.record.specs.Says.{Said, missing, number, text, coordinate, isMissing, textSaid, saidAs}
 use Rattle.record.proofs.RuleLaws.{domain-first}
 use Rattle.codec.specs.Writes.{numberBytes, signBytes, textBytes, bytesAs}
@@ -155,6 +155,12 @@ module _ {w : ℕ} (wide : 0 < w) where
   number-lawful none = blanks-number w
   number-lawful (some n) = digits-number w n wide
 
+  -- it is within a domain where what was said is
+  number-inside : (d : Domain) {own : Said} → Numeric own → w ≤ 10 → tooLarge w own ≡ false → outsideSaid d own ≡ false
+      → allOf Blank (numberBytes w own) ≡ false → not (numberWithin d (numberWritten (numberBytes w own))) ≡ false
+  number-inside d none h e o b = absurd (true-false (sym (blanks-are w) ∙ b))
+  number-inside d (some n) h e o b = rw (digits-back w n wide h e) o
+
   number-said : {own : Said} → Numeric own → w ≤ 10 → tooLarge w own ≡ false
       → pick (allOf Blank (numberBytes w own)) missing (number (numberWritten (numberBytes w own))) ≡ own
   number-said none h e = rw (blanks-are w)
@@ -200,7 +206,7 @@ module _ {w : ℕ} (wide : 0 < w) where
 
   sign-inside : {next : Said} {m : ℕ} → Placed next → 0 < m → m ≤ 10 → tooLarge m next ≡ false → allOf Blank (signBytes w next) ≡ false
       → outside Sign PlusMinus (signBytes w next) (numberBytes m next) ≡ false
-  unfolding inDomain outside
+  unfolding wordWithin inDomain outside
   sign-inside none l h e b = absurd (true-false (sym (blanks-are w) ∙ b))
   sign-inside {m = m} (some z) l h e b = rw (good-first (sign-good w wide z)) (sign-within z _ (digits-zero m (natAbs z) l h e))
 
@@ -256,23 +262,24 @@ out-missing Number w own next h = inr (or-false _ ∙ out-blank Number w own nex
 out-missing Size w own next h = inl (refl, or-false _ ∙ out-blank Size w own next h)
 
 -- it lies within its domain; a sign before the digits of its number
-any-inside : (d : Domain) → d ≡ Any → (t : List ℕ) → (not (inDomain d t) || false) ≡ false
-unfolding inDomain
-any-inside d e t = rw e
+any-inside : (form : Form) (d : Domain) → d ≡ Any → (t : List ℕ) → (not (inDomain form d t) || false) ≡ false
+unfolding wordWithin numberWithin inDomain
+any-inside form d e t = rw e (picked (λ b. (not b || false) ≡ false) (isN form) true true (λ _. refl) (λ _. refl))
 
 pub out-inside : (form : Form) (d : Domain) (w : ℕ) (own next : Said) (m : ℕ) (b : List ℕ) → d ≡ formDomain form d → Sayable form w own next
     → (form ≡ Sign → (0 < m) × (m ≤ 10) × (tooLarge m next ≡ false) × (b ≡ numberBytes m next))
     → outsideSaid d own ≡ false → allOf Blank (bytesAs form w own next) ≡ false → outside form d (bytesAs form w own next) b ≡ false
-unfolding outside bytesAs shaped
+unfolding inDomain outside bytesAs shaped
 out-inside Words d w own next m b fits h s o e =
     let r = text-first (textual w own (h .shape) (h .lawful)) e in
-    or-false (not (inDomain d (textBytes w own))) ∙ ap not (domain-first d (textBytes w own) (r .0) (r .2)) ∙ rw (r .1) at o
-out-inside Code d w own next m b fits h s o e = any-inside d fits (textBytes w own)
+    or-false (not (wordWithin d (textBytes w own))) ∙ ap not (domain-first d (textBytes w own) (r .0) (r .2)) ∙ rw (r .1) at o
+out-inside Code d w own next m b fits h s o e = any-inside Code d fits (textBytes w own)
 out-inside Sign d w own next m b fits h s o e =
     let r = s refl in
     rw (fits, r .3) (sign-inside (h .wide) (placed next (h .after refl)) (r .0) (r .1) (r .2) e)
-out-inside Number d w own next m b fits h s o e = any-inside d fits (numberBytes w own)
-out-inside Size d w own next m b fits h s o e = any-inside d fits (numberBytes w own)
+out-inside Number d w own next m b fits h s o e =
+    or-false (not (numberWithin d (numberWritten (numberBytes w own)))) ∙ number-inside (h .wide) d (numeric own (h .shape)) (h .narrow refl) (h .fits) o e
+out-inside Size d w own next m b fits h s o e = any-inside Size d fits (numberBytes w own)
 
 -- and it says what was to be said; of a number of a coordinate, after its sign
 pub out-said : (form : Form) (w : ℕ) (own next : Said) (b : List ℕ) → Sayable form w own next

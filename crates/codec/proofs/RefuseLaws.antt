@@ -28,7 +28,7 @@ use Rattle.record.specs.declared.kind.Domain.{Domain}
 use Rattle.record.specs.declared.kind.Form.the-variants.{Words, Code, Sign, Number, Size}
 use Rattle.record.specs.declared.reason.Break.{Break}
 use Rattle.record.specs.Table.{colAt, formAt, widthAt, mustAt, backAt, aheadAt, domainAt, fieldsOf, mostFields, required}
-use Rattle.record.specs.Rules.{inDomain}
+use Rattle.record.specs.Rules.{wordWithin, numberWithin}
 use Rattle.record.specs.Breaks.{atPlace, findingOf}
 use Rattle.record.specs.Says.{Said, missing, number, text, coordinate, isMissing}
 use Rattle.record.proofs.SaysLaws.{Among, texts}
@@ -162,19 +162,19 @@ missing-other Sign own next h = refl
 missing-other Number own next h = refl
 missing-other Size own next h = absurd (miss uncoded 4 tt h)
 
--- 65: of a text, whose domain is read of its first byte, and of nothing else
+-- 65: of a text, whose domain is read of its first byte, of a number, and of nothing else
 module _ (form : Form) (d : Domain) (v : Value) where
   pub outside-gone : Among texts form → v .len ≡ 0 → false ≡ outsideSaid d (saidBy form v)
   outside-gone h e = rw (as-text form v h, eq-eqb (v .len) 0 e)
 
-  pub outside-text : {t : List ℕ} {r : Bool} → Among texts form → (v .len ≡ 0 → ⊥) → t ≡ take (v .len) (v .text) → r ≡ inDomain d t → not r ≡ outsideSaid d (saidBy form v)
+  pub outside-text : {t : List ℕ} {r : Bool} → Among texts form → (v .len ≡ 0 → ⊥) → t ≡ take (v .len) (v .text) → r ≡ wordWithin d t → not r ≡ outsideSaid d (saidBy form v)
   outside-text {t} h n e q =
       let l : 0 < v .len = omega arith in
       rw (as-text form v h, ne-eqb (v .len) 0 n, q)
       (ap not (domain-first d t (firstBytes (v .len) (v .text)) (rw e (getD-take (v .len) (v .text) 0 0 l ∙ sym (first-at (v .len) (v .text) 0 l)))))
 
-  pub outside-number : form ≡ Number → false ≡ outsideSaid d (saidBy form v)
-  outside-number e = rw e (never-given (outsideSaid d) (v .given) (number (v .number)) refl refl)
+  pub outside-number : {r : Bool} → form ≡ Number → r ≡ numberWithin d (v .number) → (v .given && not r) ≡ outsideSaid d (saidBy form v)
+  outside-number e h = rw (e, h) (given-says (outsideSaid d) (v .given) (number (v .number)) refl)
 
   pub outside-size : form ≡ Size → false ≡ outsideSaid d (saidBy form v)
   outside-size e = rw e (never-given (outsideSaid d) (v .given) (coordinate (v .coordinate)) refl refl)

@@ -21,7 +21,7 @@ use Rattle.record.specs.declared.reason.Reason.the-variants.{TooLarge62, BadTex
 use Rattle.record.specs.declared.reason.Break.{Break}
 use Rattle.record.specs.declared.reason.Finding.{Finding}
 use Rattle.record.specs.Table.{formAt, widthAt, mustAt, backAt, aheadAt, domainAt, fieldsOf, required}
-use Rattle.record.specs.Rules.{inDomain}
+use Rattle.record.specs.Rules.{wordWithin, numberWithin}
 use Rattle.record.specs.Breaks.{atPlace, findingOf}
 use Rattle.record.specs.Says.{Said, missing, number, text, coordinate, isMissing}
 
@@ -88,8 +88,8 @@ refuses64 k v f = missingAs (formAt k f) (v f) (v (f + 1)) && (required (mustAt 
 
 abbrev pub outsideSaid : Domain → Said → Bool
 outsideSaid domain missing = false
-outsideSaid domain (number n) = false
-outsideSaid domain (text t) = not (inDomain domain t)
+outsideSaid domain (number n) = not (numberWithin domain n)
+outsideSaid domain (text t) = not (wordWithin domain t)
 outsideSaid domain (coordinate z) = false
 
 -- 65: outside its domain

@@ -138,21 +138,22 @@ fn lacking(k: Kind, v: Values, f: usize, gone: bool) -> bool
     }
 }
 
-// 65: outside its domain. Only a text is asked.
+// 65: outside its domain. A text and a number are asked.
 fn unfit(form: Form, domain: Domain, v: Value) -> bool
     ensures { λ r. ⌜ r ≡ outsideSaid domain (saidBy form v) ⌝ }
 {
+    let given = v.given;
     let len = v.len;
     let text = v.text;
     match form {
         Form::Sign => false,
-        Form::Number => false,
+        Form::Number => given & !domain.has_number(v.number),
         Form::Size => false,
         _ => {
             if len == 0 {
                 return false;
             }
-            !domain.has(part(&text, 0, len))
+            !domain.has_word(part(&text, 0, len))
         }
     }
 }

@@ -12,7 +12,7 @@ use Rattle.record.specs.declared.reason.Finding.the-variants.{Fine}
 use Rattle.record.specs.Table.{colAt, formAt, widthAt, mustAt, backAt, aheadAt, domainAt, ownAt, offsetAt, whichOf, targetOf}
 use Rattle.record.specs.Files.{filesOf}
 use Rattle.record.specs.Cut.{countOf, recordOf, textOf}
-use Rattle.record.specs.Rules.{breaks10, breaks11, breaks20, breaks21, notNumber, notText, breaks22, breaks23, missingIn, partnersBlank, breaks24, inDomain, outside, breaks25}
+use Rattle.record.specs.Rules.{breaks10, breaks11, breaks20, breaks21, notNumber, notText, breaks22, breaks23, missingIn, partnersBlank, breaks24, wordWithin, numberWithin, inDomain, outside, breaks25}
 use Rattle.record.specs.Breaks.{atPlace, shapeBreaks, recordBreaks, fieldBreaksAt, fieldBreaks, shapeFinding, fieldsFinding}
 use Rattle.record.specs.Says.{saidAs, saidIn}
 use Rattle.codec.specs.Values.{valueAt, valuesSay, valueOf}
@@ -34,7 +34,7 @@ pub cases : map (λ (c : Case × Outcome). outcome (c .0)) table ≡ map (λ (c 
 unfolding
     ascii firstOf firstIndex any run row each allOf edgedBy lawfulText digitsNumber numberWritten padded trimTo trimmed firstBytes notGiven base256 wordOf
     colAt formAt widthAt mustAt backAt aheadAt domainAt ownAt offsetAt whichOf filesOf countOf recordOf textOf
-    breaks10 breaks11 breaks20 breaks21 notNumber notText breaks22 breaks23 missingIn partnersBlank breaks24 inDomain outside breaks25
+    breaks10 breaks11 breaks20 breaks21 notNumber notText breaks22 breaks23 missingIn partnersBlank breaks24 wordWithin numberWithin inDomain outside breaks25
     atPlace shapeBreaks recordBreaks fieldBreaksAt fieldBreaks shapeFinding fieldsFinding saidAs saidIn
     valueAt valuesSay valueOf joined refuses62 badText refuses63 blankAt partnersMissing refuses64 refuses65 valueBreaks valuesFinding answerIn
     nameAt keyOf targetOf repeats breaks30 dangles breaks40 typedIn mistyped breaks41 keyTests keyReasons cellBreak groupFinding overFiles keysIn keysFinding

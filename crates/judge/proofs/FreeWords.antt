@@ -25,7 +25,7 @@ use Rattle.record.specs.declared.kind.Domain.the-variants.{Any}
 use Rattle.record.specs.Table.{colAt, formAt, widthAt, mustAt, backAt, aheadAt, domainAt, offsetAt, fieldsOf, lengthOf, kinds, required, isFreeWord}
 use Rattle.record.specs.machinery.Packed.{formDigit, formOf, domainDigit, domainOf}
 use Rattle.record.specs.Cut.{countOf, recordOf, textOf}
-use Rattle.record.specs.Rules.{breaks10, breaks11, breaks20, breaks21, notNumber, breaks22, breaks23, missingIn, partnersBlank, breaks24, inDomain, outside, breaks25, twenties}
+use Rattle.record.specs.Rules.{breaks10, breaks11, breaks20, breaks21, notNumber, breaks22, breaks23, missingIn, partnersBlank, breaks24, wordWithin, inDomain, outside, breaks25, twenties}
 use Rattle.record.specs.Breaks.{findingOf, atPlace, twentyReasons, recordBreaks, shapeFinding, fieldsFinding}
 use Rattle.record.specs.Table.{limit, isFreeWord}
 use Rattle.record.specs.Files.{Files, deliveryOf}
@@ -178,7 +178,7 @@ module _ (s : List ℕ) (k : Kind) (f : ℕ) (a : Alone k f) where
   free-blank = let q : f - 0 + 0 ≡ f = omega arith in rw (a .back, a .ahead, q)
 
   free-twenties : breaks23 s k f ≡ false → twenties s k f ≡ breaks20 s k f ∷ breaks21 s k f ∷ false ∷ false ∷ false ∷ false ∷ []
-  unfolding breaks22 notNumber breaks24 missingIn breaks25 inDomain outside
+  unfolding breaks22 notNumber breaks24 missingIn breaks25 wordWithin inDomain outside
   free-twenties h = rw (h, a .form, a .domain, a .must, free-blank, blank-once (allOf Blank (textOf s k f)), and-false)
 
 -- the bytes of a field are the record's

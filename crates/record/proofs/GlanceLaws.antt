@@ -29,9 +29,9 @@ use Rattle.record.specs.declared.kind.Domain.{Domain}
 use Rattle.record.specs.declared.reason.Finding.the-variants.{Fine}
 use Rattle.record.specs.Table.{Col, required, colAt, formAt, widthAt, mustAt, backAt, aheadAt, domainAt, offsetAt, fieldsOf, lengthOf, isN, isCode}
 use Rattle.record.specs.Cut.{textOf}
-use Rattle.record.specs.Rules.{breaks20, breaks21, breaks22, breaks23, breaks24, breaks25, notNumber, notText, missingIn, partnersBlank, inDomain, outside, twenties}
+use Rattle.record.specs.Rules.{breaks20, breaks21, breaks22, breaks23, breaks24, breaks25, notNumber, notText, missingIn, partnersBlank, outside, twenties}
 use Rattle.record.specs.Breaks.{findingOf, atPlace, recordFinding}
-use Rattle.record.specs.machinery.Glance.{cut, barAt, full, fullOrBlank, endAt}
+use Rattle.record.specs.machinery.Glance.{cut, barAt, full, endAt}
 use Rattle.record.proofs.TableLaws.{sane}
 use Rattle.record.proofs.RuleLaws.{partners-none}
 use Rattle.record.proofs.FindingLaws.{inRecord, record-is}
@@ -209,13 +209,14 @@ module _ (s : List ℕ) (k : Kind) (f : ℕ) (c : Col) (q : colAt k f ≡ c) whe
   unfolding breaks21 barAt
   col-bar h e = rw (col-width, ← e, h, bool.and-false)
 
-  -- a field with no partners is clean where it is full or blank, and may be so
+  -- a field with no partners, which may be blank, is clean where it is so, or full and not outside its domain
   pub alone-clean : 0 < f → breaks21 s k f ≡ false → required (c .must) ≡ false → c .back + c .ahead ≡ 0 → isCode (c .form) ≡ false
-      → ((t next : List ℕ) → outside (c .form) (c .domain) t next ≡ false) → fullOrBlank (pick (isN (c .form)) Digit Plain) (cut s (offsetAt k f) (c .width)) ≡ true → Clean s k f
-  unfolding fullOrBlank
-  alone-clean l bar must partners given within h =
+      → (b : Bool) → (b ≡ true → full (pick (isN (c .form)) Digit Plain) (cut s (offsetAt k f) (c .width)) ≡ true)
+      → (b ≡ true → (next : List ℕ) → outside (c .form) (c .domain) (cut s (offsetAt k f) (c .width)) next ≡ false)
+      → (b || allOf Blank (cut s (offsetAt k f) (c .width))) ≡ true → Clean s k f
+  alone-clean l bar must partners given b whole within h =
       either _ _
-      (λ y. full-clean s k f l bar (c .form) (c .domain) col-form col-domain (rw col-text y) (rw given) (within _ _))
+      (λ y. full-clean s k f l bar (c .form) (c .domain) col-form col-domain (rw col-text (whole y)) (rw given) (rw col-text (within y _)))
       (λ y. blank-clean s k f l bar (col-must ∙ must) (rw col-text y) (partners-none s k f (rw (col-back, col-ahead) partners) ∙ rw col-text y)) h
 
 -- WHAT A TEST TELLS of a record's places below n
@@ -233,7 +234,7 @@ seen-none s k e = absurd (true-false (sym e))
 
 -- the end is place 0
 end-clean : (s : List ℕ) (k : Kind) → endAt s (lengthOf k - 2) ≡ true → Clean s k 0
-unfolding breaks20 breaks21 breaks22 breaks23 breaks24 breaks25 notNumber notText missingIn partnersBlank inDomain outside textOf formAt widthAt mustAt backAt aheadAt domainAt colAt allOf lawfulText edgedBy trimmed trimTo each row endAt
+unfolding breaks20 breaks21 breaks22 breaks23 breaks24 breaks25 notNumber notText missingIn partnersBlank outside textOf formAt widthAt mustAt backAt aheadAt domainAt colAt allOf lawfulText edgedBy trimmed trimTo each row endAt
 end-clean s k h =
     let e : lengthOf k - 2 + 1 ≡ lengthOf k - 1 = omega (arith, sane k) in
     clean s k 0 (rw (ap not (rw e at h))) refl refl refl refl refl

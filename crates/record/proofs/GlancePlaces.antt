@@ -20,7 +20,7 @@ use Rattle.record.specs.declared.kind.Form.the-variants.{Sign, Size}
 use Rattle.record.specs.declared.kind.Domain.the-variants.{Any, PlusMinus}
 use Rattle.record.specs.Table.{Col, Must, never, required, whole, signCol, sizeCol, pair, zPair, cols, roomIn, colAt, backAt, aheadAt, offsetAt, fieldsOf}
 use Rattle.record.specs.Cut.{textOf}
-use Rattle.record.specs.Rules.{breaks21, partnersBlank, inDomain, outside}
+use Rattle.record.specs.Rules.{breaks21, partnersBlank, wordWithin, numberWithin, inDomain, outside}
 use Rattle.record.specs.machinery.Glance.{cut, barAt, signIn, signedAt, goneAt, positionAt, nowhereAt}
 use Rattle.record.proofs.TableLaws.{offset-next}
 use Rattle.record.proofs.GlanceLaws.{either, Over, over-two, over-both, Clean, sign-within, full-clean, blank-clean, last-bar, col-form, col-must, col-domain, col-back, col-ahead, col-text, col-bar}
@@ -90,7 +90,7 @@ module _ (s : List ℕ) (k : Kind) (f : ℕ) (w : ℕ) (must : Must) (back ahead
   module _ (l : 0 < f) (bar : breaks21 s k (f + 1) ≡ false) where
     -- a coordinate is clean,
     signed-clean : signedAt s (offsetAt k f) w ≡ true → Over (Clean s k) f (f + 2)
-    unfolding signedAt signIn inDomain outside
+    unfolding signedAt signIn wordWithin numberWithin inDomain outside
     signed-clean h =
         let h' = and-true _ _ h in
         let sign = and-true _ _ (h' .0) in

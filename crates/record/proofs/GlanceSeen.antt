@@ -7,21 +7,40 @@ use mathlib.Core.List.{List, [], _∷_}
 use mathlib.Core.Path.{_≡_, refl, sym, _∙_}
 use native.Mathlib.Omega.{arith}
 use lib.Dec.{ltb}
-use lib.ListN.{getD, take, drop}
+use lib.ListN.{take, drop}
 use lib.Seq.{getD-take, getD-drop, take-take, drop-drop}
+use Rattle.laws.specs.Row.{pick}
 use Rattle.laws.proofs.RowLaws.{and-true}
 use Rattle.field.specs.declared.class.Class.the-variants.{Digit, Plain}
 use Rattle.record.specs.declared.kind.Kind.{Kind}
+use Rattle.record.specs.declared.kind.Form.{Form}
 use Rattle.record.specs.declared.kind.Form.the-variants.{Words, Code, Number}
-use Rattle.record.specs.declared.kind.Domain.the-variants.{Any, ObjectType, PlusMinus}
+use Rattle.record.specs.declared.kind.Domain.{Domain}
+use Rattle.record.specs.declared.kind.Domain.the-variants.{Any}
 use Rattle.record.specs.declared.kind.Target.{Target}
 use Rattle.record.specs.declared.kind.Target.the-variants.{Free}
-use Rattle.record.specs.Table.{never, always, alone, single, position, centroid, cols, colAt, offsetAt, fieldsOf}
-use Rattle.record.specs.Rules.{isSignByte, inDomain, outside}
-use Rattle.record.specs.machinery.Glance.{cut, barAt, full, fullOrBlank, needAt, mayAt, codeAt, tipoAt, senseIn, signedAt, goneAt, positionAt, nowhereAt}
-use Rattle.record.proofs.RuleLaws.{partners-none}
-use Rattle.record.proofs.GlanceLaws.{either, Over, over-one, over-both, Clean, full-some, no-n, longer, full-clean, blank-clean, last-bar, bar-length, col-form, col-must, col-domain, col-back, col-ahead, col-text, col-bar, alone-clean, Seen}
+use Rattle.record.specs.Table.{never, always, alone, single, position, centroid, cols, colAt, offsetAt, fieldsOf, isN, isCode, isSign}
+use Rattle.record.specs.Rules.{breaks21, wordWithin, numberWithin, inDomain, outside}
+use Rattle.record.specs.machinery.Glance.{cut, barAt, full, fullOrBlank, fullIn, inOrBlank, needAt, mayAt, needInAt, mayInAt, codeAt, signedAt, goneAt, positionAt, nowhereAt}
+use Rattle.record.proofs.GlanceLaws.{either, Over, over-one, over-both, Clean, full-some, no-n, longer, full-clean, last-bar, bar-length, col-form, col-domain, col-text, col-bar, alone-clean, Seen}
 use Rattle.record.proofs.GlancePlaces.{position-clean, nowhere-clean}
+
+-- A TEXT that is full and within a domain is full, and not outside
+full-in : (form : Form) (d : Domain) (t : List ℕ) → fullIn form d t ≡ true → full (pick (isN form) Digit Plain) t ≡ true
+unfolding fullIn
+full-in form d t h = and-true _ _ h .0
+
+not-out : (form : Form) (d : Domain) (t next : List ℕ) → isSign form ≡ false → fullIn form d t ≡ true → outside form d t next ≡ false
+unfolding fullIn outside
+not-out form d t next s h = rw (and-true (full (pick (isN form) Digit Plain) t) (inDomain form d t) h .1, s)
+
+-- so the field is clean where it is that, or blank where it may be
+in-clean :
+    (s : List ℕ) (k : Kind) (f : ℕ) (form : Form) (d : Domain) (w : ℕ) → isCode form ≡ false → isSign form ≡ false → 0 < f → colAt k f ≡ single form w never d Free
+    → breaks21 s k f ≡ false → inOrBlank form d (cut s (offsetAt k f) w) ≡ true → Clean s k f
+unfolding inOrBlank
+in-clean s k f form d w code sign l q bar h =
+    alone-clean s k f _ q l bar refl refl code _ (full-in form d _) (λ z next. not-out form d _ next sign z) h
 
 -- FIELD BY FIELD
 module _ (s : List ℕ) (k : Kind) (n : ℕ) {a b : Bool} (past : Seen s k n a) where
@@ -34,58 +53,59 @@ module _ (s : List ℕ) (k : Kind) (n : ℕ) {a b : Bool} (past : Seen s k n a) 
 
   -- a number that may not be missing,
   pub seen-need : (w : ℕ) {r : Target} → colAt k n ≡ single Number w always Any r → b ≡ needAt s (offsetAt k n) w → Seen s k (n + 1) (a && b)
-  unfolding needAt inDomain outside
+  unfolding needAt numberWithin inDomain outside
   seen-need w q e = seen-one (λ y.
       let h = and-true _ _ (sym e ∙ y) in
       full-clean s k n (past .some) (col-bar s k n _ q (h .1) refl) Number Any (col-form s k n _ q) (col-domain s k n _ q) (rw (col-text s k n _ q) (h .0)) refl refl)
 
   -- a number and a text that may be,
   pub seen-may : (w : ℕ) {r : Target} {own : Bool} → colAt k n ≡ alone Number w never Any r own false → b ≡ mayAt Digit s (offsetAt k n) w → Seen s k (n + 1) (a && b)
-  unfolding mayAt inDomain outside
+  unfolding mayAt fullOrBlank numberWithin inDomain outside
   seen-may w q e = seen-one (λ y.
       let h = and-true _ _ (sym e ∙ y) in
-      alone-clean s k n _ q (past .some) (col-bar s k n _ q (h .1) refl) refl refl refl (λ t next. refl) (h .0))
+      alone-clean s k n _ q (past .some) (col-bar s k n _ q (h .1) refl) refl refl refl _ (λ z. z) (λ z next. refl) (h .0))
 
   pub seen-words : (w : ℕ) {free : Bool} → colAt k n ≡ alone Words w never Any Free false free → b ≡ mayAt Plain s (offsetAt k n) w → Seen s k (n + 1) (a && b)
-  unfolding mayAt inDomain outside
+  unfolding mayAt fullOrBlank wordWithin inDomain outside
   seen-words w q e = seen-one (λ y.
       let h = and-true _ _ (sym e ∙ y) in
-      alone-clean s k n _ q (past .some) (col-bar s k n _ q (h .1) refl) refl refl refl (λ t next. refl) (h .0))
+      alone-clean s k n _ q (past .some) (col-bar s k n _ q (h .1) refl) refl refl refl _ (λ z. z) (λ z next. refl) (h .0))
 
   -- the same as the last field,
   pub seen-last : (w : ℕ) {free : Bool} → colAt k n ≡ alone Words w never Any Free false free → ltb n (fieldsOf k) ≡ false → b ≡ fullOrBlank Plain (cut s (offsetAt k n) w) → Seen s k (n + 1) (a && b)
-  unfolding inDomain outside
+  unfolding fullOrBlank wordWithin inDomain outside
   seen-last w q l e = seen-one (λ y.
-      alone-clean s k n _ q (past .some) (last-bar s k n l) refl refl refl (λ t next. refl) (sym e ∙ y))
+      alone-clean s k n _ q (past .some) (last-bar s k n l) refl refl refl _ (λ z. z) (λ z next. refl) (sym e ∙ y))
 
-  -- a CODIGO, a catalogue TIPO
+  -- a CODIGO
   pub seen-code : {r : Target} → colAt k n ≡ single Code 7 always Any r → b ≡ codeAt s (offsetAt k n) 7 → Seen s k (n + 1) (a && b)
-  unfolding codeAt inDomain outside
+  unfolding codeAt wordWithin inDomain outside
   seen-code q e = seen-one (λ y.
       let h = and-true _ _ (sym e ∙ y) in
       let h' = and-true _ _ (h .0) in
       let t = col-text s k n _ q in
       full-clean s k n (past .some) (col-bar s k n _ q (h .1) refl) Code Any (col-form s k n _ q) (col-domain s k n _ q) (rw t (h' .0)) (rw t (either _ _ (no-n _ (full-some Plain _ (h' .0))) (longer _ (omega (arith, bar-length s (offsetAt k n) 7 (h .1)))) (h' .1))) refl)
 
-  pub seen-tipo : colAt k n ≡ single Words 1 always ObjectType Free → b ≡ tipoAt s (offsetAt k n) 1 → Seen s k (n + 1) (a && b)
-  unfolding tipoAt inDomain outside
-  seen-tipo q e = seen-one (λ y.
-      let c = single Words 1 always ObjectType Free in
-      let h = and-true _ _ (sym e ∙ y) in
-      let h' = and-true _ _ (h .0) in
-      let t = col-text s k n c q in
-      full-clean s k n (past .some) (col-bar s k n c q (h .1) refl) Words ObjectType (col-form s k n c q) (col-domain s k n c q) (rw t (h' .0)) refl (rw (t, h' .1)))
+  -- A FIELD WITH A DOMAIN, which is neither a CODIGO nor a sign: one that may not be missing,
+  module _ (form : Form) (d : Domain) (w : ℕ) (code : isCode form ≡ false) (sign : isSign form ≡ false) where
+    pub seen-need-in : colAt k n ≡ single form w always d Free → b ≡ needInAt form d s (offsetAt k n) w → Seen s k (n + 1) (a && b)
+    unfolding needInAt
+    seen-need-in q e = seen-one (λ y.
+        let h = and-true _ _ (sym e ∙ y) in
+        let t = col-text s k n _ q in
+        full-clean s k n (past .some) (col-bar s k n _ q (h .1) refl) form d (col-form s k n _ q) (col-domain s k n _ q)
+        (rw t (full-in form d _ (h .0))) (rw code) (rw t (not-out form d _ _ sign (h .0))))
 
-  -- and a sense as the last field
-  pub seen-sense : colAt k n ≡ single Words 1 never PlusMinus Free → ltb n (fieldsOf k) ≡ false → b ≡ senseIn (cut s (offsetAt k n) 1) → Seen s k (n + 1) (a && b)
-  unfolding senseIn inDomain outside
-  seen-sense q l e = seen-one (λ y.
-      let c = single Words 1 never PlusMinus Free in
-      let t = col-text s k n c q in
-      either _ _
-      (λ z. let h = and-true (full Plain (cut s (offsetAt k n) 1)) (isSignByte (getD (cut s (offsetAt k n) 1) 0 0)) z in full-clean s k n (past .some) (last-bar s k n l) Words PlusMinus (col-form s k n c q) (col-domain s k n c q) (rw t (h .0)) refl (rw (t, h .1)))
-      (λ z. blank-clean s k n (past .some) (last-bar s k n l) (col-must s k n c q) (rw t z) (partners-none s k n (rw (col-back s k n c q, col-ahead s k n c q)) ∙ rw t z))
-      (sym e ∙ y))
+    -- one that may be,
+    pub seen-may-in : colAt k n ≡ single form w never d Free → b ≡ mayInAt form d s (offsetAt k n) w → Seen s k (n + 1) (a && b)
+    unfolding mayInAt
+    seen-may-in q e = seen-one (λ y.
+        let h = and-true _ _ (sym e ∙ y) in
+        in-clean s k n form d w code sign (past .some) q (col-bar s k n _ q (h .1) refl) (h .0))
+
+    -- and the same as the last field
+    pub seen-last-in : colAt k n ≡ single form w never d Free → ltb n (fieldsOf k) ≡ false → b ≡ inOrBlank form d (cut s (offsetAt k n) w) → Seen s k (n + 1) (a && b)
+    seen-last-in q l e = seen-one (λ y. in-clean s k n form d w code sign (past .some) q (last-bar s k n l) (sym e ∙ y))
 
   -- X, Y and Z, which are the last
   pub seen-position : drop n (cols k) ≡ position → (b ≡ true → positionAt s (offsetAt k n) ≡ true) → Seen s k (n + 6) (a && b)

@@ -14,7 +14,7 @@ use Rattle.record.specs.declared.kind.Kind.{Kind}
 use Rattle.record.specs.declared.kind.Form.{Form}
 use Rattle.record.specs.declared.kind.Form.the-variants.{Words, Code, Sign, Number, Size}
 use Rattle.record.specs.declared.kind.Domain.{Domain}
-use Rattle.record.specs.declared.kind.Domain.the-variants.{Any, ObjectType, PlusMinus}
+use Rattle.record.specs.declared.kind.Domain.the-variants.{Any, ObjectType, PlusMinus, NodeType, Orientation, Justification}
 use Rattle.record.specs.declared.kind.Target.{Target}
 use Rattle.record.specs.declared.kind.Target.the-variants.{Free, Nowhere, To}
 use Rattle.record.specs.Table.{Col, whole, cols, colAt, formAt, domainAt, fileOf, whichOf}
@@ -57,10 +57,13 @@ unfolding domainOf
 domain-digit Any = refl
 domain-digit ObjectType = refl
 domain-digit PlusMinus = refl
+domain-digit NodeType = refl
+domain-digit Orientation = refl
+domain-digit Justification = refl
 
-pub domain-rest : (n : ℕ) → NoneOf (numbers 1 2) n → Any ≡ domainOf n
+pub domain-rest : (n : ℕ) → NoneOf (numbers 1 5) n → Any ≡ domainOf n
 unfolding domainOf
-domain-rest n o = default-at Any 1 (ObjectType ∷ PlusMinus ∷ []) n o
+domain-rest n o = default-at Any 1 (ObjectType ∷ PlusMinus ∷ NodeType ∷ Orientation ∷ Justification ∷ []) n o
 
 pub target-digits : (t : Target) → targetBy (targetFile t) (targetField t) ≡ t
 unfolding targetBy whichOf
@@ -73,12 +76,12 @@ pub one-picked : (b : Bool) → eqb (pick b 1 0) 1 ≡ b
 one-picked true = refl
 one-picked false = refl
 
--- THE DOMAIN of a form: only words have one of their own
+-- THE DOMAIN of a form: only words and numbers have one of their own
 abbrev pub formDomain : Form → Domain → Domain
 formDomain Words d = d
 formDomain Code d = Any
 formDomain Sign d = PlusMinus
-formDomain Number d = Any
+formDomain Number d = d
 formDomain Size d = Any
 
 abbrev domainTest : Col → Bool

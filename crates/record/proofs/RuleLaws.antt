@@ -17,10 +17,10 @@ use Rattle.record.specs.declared.kind.Kind.{Kind}
 use Rattle.record.specs.declared.kind.Form.{Form}
 use Rattle.record.specs.declared.kind.Form.the-variants.{Words, Code, Sign, Number, Size}
 use Rattle.record.specs.declared.kind.Domain.{Domain}
-use Rattle.record.specs.declared.kind.Domain.the-variants.{Any, ObjectType, PlusMinus}
+use Rattle.record.specs.declared.kind.Domain.the-variants.{Any, ObjectType, PlusMinus, NodeType, Orientation, Justification}
 use Rattle.record.specs.Table.{backAt, aheadAt, isSign}
 use Rattle.record.specs.Cut.{textOf}
-use Rattle.record.specs.Rules.{partnersBlank, inDomain}
+use Rattle.record.specs.Rules.{partnersBlank, wordWithin}
 use Rattle.record.proofs.SaysLaws.{Among, noSign}
 
 -- RULES: NA and ND are told of the bytes that are left
@@ -28,12 +28,15 @@ pub not-given-trimmed : (t : List ℕ) {len : ℕ} → len ≡ length (trimmed t
 unfolding trimmed
 not-given-trimmed t e = rw (e, first-bytes-le _ t (trimmed-le t), length-trimmed)
 
--- THE DOMAIN is read of the first byte
-pub domain-first : (d : Domain) (t u : List ℕ) → getD t 0 0 ≡ getD u 0 0 → inDomain d t ≡ inDomain d u
-unfolding inDomain
+-- THE DOMAIN of a word is read of the first byte
+pub domain-first : (d : Domain) (t u : List ℕ) → getD t 0 0 ≡ getD u 0 0 → wordWithin d t ≡ wordWithin d u
+unfolding wordWithin
 domain-first Any t u e = refl
 domain-first ObjectType t u e = rw e
 domain-first PlusMinus t u e = rw e
+domain-first NodeType t u e = rw e
+domain-first Orientation t u e = refl
+domain-first Justification t u e = refl
 
 -- no form but the sign's is a sign's
 pub no-sign : (form : Form) → Among noSign form → isSign form ≡ false

@@ -40,6 +40,7 @@ numberOf (R.SamePlace54 earlier) = 54
 numberOf R.PointElsewhere55 = 55
 numberOf R.IdleNode56 = 56
 numberOf R.IdleObject57 = 57
+numberOf R.NodeType58 = 58
 numberOf R.NoLastVertex59 = 59
 numberOf R.NoFile60 = 60
 numberOf R.ShortRoom61 = 61

@@ -6,14 +6,15 @@ use mathlib.Core.Bool.{Bool, true, not, _&&_, _||_}
 use mathlib.Core.List.{List, [], _∷_}
 use lib.ListN.{length, getD}
 use lib.Dec.{ltb, eqb}
-use Rattle.laws.specs.Row.{row, each}
+use Rattle.laws.specs.Row.{pick, row, each}
 use Rattle.field.specs.declared.class.Class.the-variants.{Blank, Digit, Zero}
 use Rattle.field.specs.Bytes.{allOf}
+use Rattle.field.specs.Digits.{numberWritten}
 use Rattle.field.specs.Texts.{trimmed, lawfulText, notGiven}
 use Rattle.record.specs.declared.kind.Kind.{Kind}
 use Rattle.record.specs.declared.kind.Form.{Form}
 use Rattle.record.specs.declared.kind.Domain.{Domain}
-use Rattle.record.specs.declared.kind.Domain.the-variants.{Any, ObjectType, PlusMinus}
+use Rattle.record.specs.declared.kind.Domain.the-variants.{Any, ObjectType, PlusMinus, NodeType, Orientation, Justification}
 use Rattle.record.specs.Table.{formAt, widthAt, mustAt, backAt, aheadAt, domainAt, offsetAt, fieldsOf, lengthOf, limit, required, isN, isCode, isSign}
 use Rattle.record.specs.Cut.{textOf}
 
@@ -68,16 +69,36 @@ breaks24 s k f = missingIn (formAt k f) (textOf s k f) && (required (mustAt k f)
 abbrev pub isSignByte : ℕ → Bool
 isSignByte b = eqb b 43 || eqb b 45
 
--- a field's bytes are within a domain
-unfoldable pub inDomain : Domain → List ℕ → Bool
-inDomain Any t = true
+-- a word is within a domain, by its one byte
+unfoldable pub wordWithin : Domain → List ℕ → Bool
+wordWithin Any t = true
 -- P, X, L or T
-inDomain ObjectType t = eqb (getD t 0 0) 80 || eqb (getD t 0 0) 88 || eqb (getD t 0 0) 76 || eqb (getD t 0 0) 84
-inDomain PlusMinus t = isSignByte (getD t 0 0)
+wordWithin ObjectType t = eqb (getD t 0 0) 80 || eqb (getD t 0 0) 88 || eqb (getD t 0 0) 76 || eqb (getD t 0 0) 84
+wordWithin PlusMinus t = isSignByte (getD t 0 0)
+-- A isolated, C connected, E end, I intermediate, H both
+wordWithin NodeType t =
+    eqb (getD t 0 0) 65 || eqb (getD t 0 0) 67 || eqb (getD t 0 0) 69 || eqb (getD t 0 0) 73 || eqb (getD t 0 0) 72
+wordWithin Orientation t = true
+wordWithin Justification t = true
+
+-- a number is within a domain
+unfoldable pub numberWithin : Domain → ℕ → Bool
+numberWithin Any n = true
+numberWithin ObjectType n = true
+numberWithin PlusMinus n = true
+numberWithin NodeType n = true
+-- degrees 000 to 359 and minutes 00 to 59, in five digits
+numberWithin Orientation n = ltb n 36000 && ltb (n % 100) 60
+-- 1 to 9
+numberWithin Justification n = ltb 0 n && ltb n 10
+
+-- a field's bytes are within a domain
+unfoldable pub inDomain : Form → Domain → List ℕ → Bool
+inDomain form domain t = pick (isN form) (numberWithin domain (numberWritten t)) (wordWithin domain t)
 
 -- outside the domain; next is the next field's bytes: - never stands before zero, which is told at the sign
 unfoldable pub outside : Form → Domain → List ℕ → List ℕ → Bool
-outside form domain t next = not (inDomain domain t) || isSign form && (eqb (getD t 0 0) 45 && allOf Zero next)
+outside form domain t next = not (inDomain form domain t) || isSign form && (eqb (getD t 0 0) 45 && allOf Zero next)
 
 -- 25: not missing and outside its domain; read only of a field that breaks neither 22 nor 23
 unfoldable pub breaks25 : List ℕ → Kind → ℕ → Bool

@@ -11,7 +11,7 @@ use Rattle.record.specs.declared.kind.Kind.the-variants.{Catalogo, ObPun
 use Rattle.record.specs.declared.kind.Form.{Form}
 use Rattle.record.specs.declared.kind.Form.the-variants.{Words, Code, Sign, Number, Size}
 use Rattle.record.specs.declared.kind.Domain.{Domain}
-use Rattle.record.specs.declared.kind.Domain.the-variants.{Any, ObjectType, PlusMinus}
+use Rattle.record.specs.declared.kind.Domain.the-variants.{Any, ObjectType, PlusMinus, NodeType, Orientation, Justification}
 use Rattle.record.specs.declared.kind.Target.{Target}
 use Rattle.record.specs.declared.kind.Target.the-variants.{Free, Nowhere, To}
 use Rattle.record.specs.declared.kind.Which.{Which}
@@ -55,6 +55,13 @@ need w = single Number w always Any Free
 
 abbrev pub may : ℕ → Col
 may w = single Number w never Any Free
+
+-- N with a domain: an orientation, which may be missing, and a justification, which may not
+abbrev pub orientation : Col
+orientation = single Number 5 never Orientation Free
+
+abbrev pub justification : Col
+justification = single Number 1 always Justification Free
 
 -- the id of a record of a kind, which may not be missing, or may be
 abbrev pub needsA : Kind → Col
@@ -127,17 +134,17 @@ abbrev pub rowOf : Kind → FileRow
 -- CODIGO, TIPO, NOMBRE_C, DEFINICI. Its own CODIGO refers to nothing
 rowOf Catalogo = fileRow 1 0 1 (single Code 7 always Any Free ∷ single Words 1 always ObjectType Free ∷ freeWord ∷ freeWord ∷ [])
 -- type P; own id, composite id, node id, CODIGO, name, orientation, M, position
-rowOf ObPun = fileRow 2 80 1 (need 10 ∷ noFileYet ∷ mayNameA Nodo ∷ code ∷ freeWord ∷ may 5 ∷ may 3 ∷ position)
+rowOf ObPun = fileRow 2 80 1 (need 10 ∷ noFileYet ∷ mayNameA Nodo ∷ code ∷ freeWord ∷ orientation ∷ may 3 ∷ position)
 -- type X; own id, composite id, CODIGO, LITERAL, height, width, orientation, justification, position
-rowOf ObTex = fileRow 3 88 1 (need 10 ∷ noFileYet ∷ code ∷ freeWord ∷ need 3 ∷ may 3 ∷ may 5 ∷ need 1 ∷ position)
+rowOf ObTex = fileRow 3 88 1 (need 10 ∷ noFileYet ∷ code ∷ freeWord ∷ need 3 ∷ may 3 ∷ orientation ∷ justification ∷ position)
 -- type L; own id, composite id, CODIGO, name, centroid
 rowOf ObLin = fileRow 4 76 1 (need 10 ∷ noFileYet ∷ code ∷ freeWord ∷ centroid)
 -- type T; own id, linear object id, perimeter id, line id, CODIGO, start node, end node, sense
 rowOf Tramo = fileRow 5 84 1 (need 10 ∷ needsA ObLin ∷ noFileYet ∷ ownLine ∷ code ∷ needsA Nodo ∷ needsA Nodo ∷ single Words 1 never PlusMinus Free ∷ [])
 -- line id, which a tramo uses, order, position
 rowOf Vertice = fileRow 6 0 2 (single Number 10 always Any (To Tramo 4) ∷ need 5 ∷ position)
--- own id, TIPO (in the base any byte of the A set), position
-rowOf Nodo = fileRow 7 0 1 (need 10 ∷ words 1 ∷ position)
+-- own id, TIPO, position
+rowOf Nodo = fileRow 7 0 1 (need 10 ∷ single Words 1 never NodeType Free ∷ position)
 
 -- the kinds, in the order of their files' numbers
 abbrev pub kinds : List Kind

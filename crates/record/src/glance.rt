@@ -3,6 +3,8 @@
 // the compiler knows every width, and reads several bytes at a step. The tests are joined without a branch, since whether a field that
 // may be blank is so can't be guessed.
 use crate::cut::part;
+use crate::kind::Domain;
+use crate::kind::Form;
 use crate::kind::Kind;
 use crate::reason::Finding;
 use field::class::Class;
@@ -10,8 +12,10 @@ use field::class::byte;
 ghost use mathlib.Core.Path.{_≡_};
 ghost use mathlib.Core.Bool.{true};
 ghost use Prim.Native.Nat.{ℕ, _+_, _<_};
+ghost use Rattle.laws.specs.Row.{pick};
+ghost use Rattle.record.specs.Table.{isN};
 ghost use Rattle.record.specs.Breaks.{recordFinding};
-ghost use Rattle.record.specs.machinery.Glance.{cut, barAt, full, fullOrBlank, needAt, mayAt, codeAt, tipoAt, senseIn, signIn, signedAt, goneAt, positionAt, nowhereAt, endAt};
+ghost use Rattle.record.specs.machinery.Glance.{barAt, full, fullOrBlank, fullIn, inOrBlank, needAt, mayAt, needInAt, mayInAt, codeAt, signIn, signedAt, goneAt, positionAt, nowhereAt, endAt};
 
 fn has_bar(rec: &[u8], o: usize) -> bool
     ensures { λ r. ⌜ r ≡ barAt (now (rec .entry)) o ⌝ }
@@ -32,6 +36,29 @@ fn is_full_or_blank(class: Class, t: &[u8]) -> bool
     is_full(class, t) | Class::Blank.every(t)
 }
 
+// The class of a form's bytes.
+fn class_of(form: Form) -> Class
+    ensures { λ r. ⌜ r ≡ pick (isN form) Class.Digit Class.Plain ⌝ }
+{
+    if form.is_n() {
+        Class::Digit
+    } else {
+        Class::Plain
+    }
+}
+
+fn is_full_in(form: Form, domain: Domain, t: &[u8]) -> bool
+    ensures { λ r. ⌜ r ≡ fullIn form domain (now (t .entry)) ⌝ }
+{
+    is_full(class_of(form), t) & domain.has(form, t)
+}
+
+fn is_in_or_blank(form: Form, domain: Domain, t: &[u8]) -> bool
+    ensures { λ r. ⌜ r ≡ inOrBlank form domain (now (t .entry)) ⌝ }
+{
+    is_full_in(form, domain, t) | Class::Blank.every(t)
+}
+
 // A field of w bytes from o on and the bar after it: a number that may not be missing,
 fn need(rec: &[u8], o: usize, w: usize) -> bool
     requires { ⌜ o + w < 256 ⌝ }
@@ -48,31 +75,28 @@ fn may(class: Class, rec: &[u8], o: usize, w: usize) -> bool
     is_full_or_blank(class, part(rec, o, w)) & has_bar(rec, o + w)
 }
 
-// a CODIGO that doesn't begin with N, as NA and ND do, or is longer than they are: its third byte is no blank,
+// the same of a field with a domain,
+fn need_in(form: Form, domain: Domain, rec: &[u8], o: usize, w: usize) -> bool
+    requires { ⌜ o + w < 256 ⌝ }
+    ensures { λ r. ⌜ r ≡ needInAt form domain (now (rec .entry)) o w ⌝ }
+{
+    is_full_in(form, domain, part(rec, o, w)) & has_bar(rec, o + w)
+}
+
+fn may_in(form: Form, domain: Domain, rec: &[u8], o: usize, w: usize) -> bool
+    requires { ⌜ o + w < 256 ⌝ }
+    ensures { λ r. ⌜ r ≡ mayInAt form domain (now (rec .entry)) o w ⌝ }
+{
+    is_in_or_blank(form, domain, part(rec, o, w)) & has_bar(rec, o + w)
+}
+
+// a CODIGO that doesn't begin with N, as NA and ND do, or is longer than they are: its third byte is no blank.
 fn code(rec: &[u8], o: usize) -> bool
     requires { ⌜ o < 248 ⌝ }
     ensures { λ r. ⌜ r ≡ codeAt (now (rec .entry)) o 7 ⌝ }
 {
     let t = part(rec, o, 7);
     is_full(Class::Plain, t) & ((byte(t, 0) != 78) | (byte(t, 2) != 32)) & has_bar(rec, o + 7)
-}
-
-// a catalogue TIPO.
-fn tipo(rec: &[u8], o: usize) -> bool
-    requires { ⌜ o < 248 ⌝ }
-    ensures { λ r. ⌜ r ≡ tipoAt (now (rec .entry)) o 1 ⌝ }
-{
-    let t = part(rec, o, 1);
-    let b = byte(t, 0);
-    is_full(Class::Plain, t) & ((b == 80) | (b == 88) | (b == 76) | (b == 84)) & has_bar(rec, o + 1)
-}
-
-// A sense, which is a record's last field: there is no bar after it.
-fn is_sense(t: &[u8]) -> bool
-    ensures { λ r. ⌜ r ≡ senseIn (now (t .entry)) ⌝ }
-{
-    let b = byte(t, 0);
-    (is_full(Class::Plain, t) & ((b == 43) | (b == 45))) | Class::Blank.every(t)
 }
 
 // A sign; next is the number's text, which isn't zero after a minus.
@@ -144,7 +168,7 @@ fn catalogo(rec: &[u8]) -> bool
     }
     ends(rec, 131)
         & code(rec, 0)
-        & tipo(rec, 8)
+        & need_in(Form::Words, Domain::ObjectType, rec, 8, 1)
         & may(Class::Plain, rec, 10, 60)
         & is_full_or_blank(Class::Plain, part(rec, 71, 60))
 }
@@ -161,7 +185,7 @@ fn ob_pun(rec: &[u8]) -> bool
         & may(Class::Digit, rec, 22, 10)
         & code(rec, 33)
         & may(Class::Plain, rec, 41, 60)
-        & may(Class::Digit, rec, 102, 5)
+        & may_in(Form::Number, Domain::Orientation, rec, 102, 5)
         & may(Class::Digit, rec, 108, 3)
         & position(rec, 112)
 }
@@ -179,8 +203,8 @@ fn ob_tex(rec: &[u8]) -> bool
         & may(Class::Plain, rec, 30, 60)
         & need(rec, 91, 3)
         & may(Class::Digit, rec, 95, 3)
-        & may(Class::Digit, rec, 99, 5)
-        & need(rec, 105, 1)
+        & may_in(Form::Number, Domain::Orientation, rec, 99, 5)
+        & need_in(Form::Number, Domain::Justification, rec, 105, 1)
         & position(rec, 107)
 }
 
@@ -212,7 +236,7 @@ fn tramo(rec: &[u8]) -> bool
         & code(rec, 44)
         & need(rec, 52, 10)
         & need(rec, 63, 10)
-        & is_sense(part(rec, 74, 1))
+        & is_in_or_blank(Form::Words, Domain::PlusMinus, part(rec, 74, 1))
 }
 
 fn vertice(rec: &[u8]) -> bool
@@ -230,7 +254,10 @@ fn nodo(rec: &[u8]) -> bool
     if rec.len() != 50 {
         return false;
     }
-    ends(rec, 48) & need(rec, 0, 10) & may(Class::Plain, rec, 11, 1) & position(rec, 13)
+    ends(rec, 48)
+        & need(rec, 0, 10)
+        & may_in(Form::Words, Domain::NodeType, rec, 11, 1)
+        & position(rec, 13)
 }
 
 // Whether a glance tells that nothing is broken in a record.

@@ -59,11 +59,15 @@ pub enum Form {
     Size,
 }
 
-// What a field's bytes may be, where they are sound: anything; P, X, L or T; + or -.
+// What a field may say, where its bytes are sound: of a word anything, P, X, L or T, + or -, A, C, E, I or H; of a number anything, degrees
+// and minutes, 1 to 9.
 pub enum Domain {
     Any,
     ObjectType,
     PlusMinus,
+    NodeType,
+    Orientation,
+    Justification,
 }
 
 // What a field refers to: nothing; a record of a file that is not there; the records of a kind, by a field of theirs.

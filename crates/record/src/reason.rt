@@ -42,6 +42,8 @@ pub enum Reason {
     IdleNode56,
     // The linear object is named by no tramo.
     IdleObject57,
+    // The node's TIPO disagrees with what the node is.
+    NodeType58,
     // The tramo's line has no vertex of highest order.
     NoLastVertex59,
     // The file number is outside 1 to 7.
@@ -101,6 +103,7 @@ impl Reason {
             Reason::PointElsewhere55 => 55,
             Reason::IdleNode56 => 56,
             Reason::IdleObject57 => 57,
+            Reason::NodeType58 => 58,
             Reason::NoLastVertex59 => 59,
             Reason::NoFile60 => 60,
             Reason::ShortRoom61 => 61,

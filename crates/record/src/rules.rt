@@ -5,6 +5,7 @@ use crate::kind::Form;
 use crate::kind::Kind;
 use field::class::Class;
 use field::class::byte;
+use field::number::get_number;
 use field::words::lawful_text;
 use field::words::not_given;
 use field::words::trimmed_len;
@@ -17,7 +18,7 @@ ghost use Rattle.field.specs.Bytes.{allOf};
 ghost use Rattle.field.specs.Texts.{trimmed, notGiven};
 ghost use Rattle.record.specs.Table.{required, mustAt, domainAt, isN, isCode, isSign};
 ghost use Rattle.record.specs.Cut.{textOf};
-ghost use Rattle.record.specs.Rules.{breaks20, breaks21, notText, partnersBlank, isSignByte, inDomain, outside, twenties};
+ghost use Rattle.record.specs.Rules.{breaks20, breaks21, notText, partnersBlank, isSignByte, wordWithin, numberWithin, inDomain, outside, twenties};
 
 // 20: the record doesn't end in 0D 0A.
 fn bad_end(rec: &[u8], k: Kind, f: usize) -> bool
@@ -126,15 +127,43 @@ fn is_sign_byte(b: u8) -> bool
 }
 
 impl Domain {
-    // Whether a field's bytes are within the domain.
-    pub fn has(self, t: &[u8]) -> bool
-        ensures { λ r. ⌜ r ≡ inDomain self (now (t .entry)) ⌝ }
+    // Whether a word is within the domain,
+    pub fn has_word(self, t: &[u8]) -> bool
+        ensures { λ r. ⌜ r ≡ wordWithin self (now (t .entry)) ⌝ }
     {
         let b = byte(t, 0);
         match self {
             Domain::Any => true,
             Domain::ObjectType => (b == 80) | (b == 88) | (b == 76) | (b == 84),
             Domain::PlusMinus => is_sign_byte(b),
+            Domain::NodeType => (b == 65) | (b == 67) | (b == 69) | (b == 73) | (b == 72),
+            Domain::Orientation => true,
+            Domain::Justification => true,
+        }
+    }
+
+    // whether a number is,
+    pub fn has_number(self, n: u64) -> bool
+        ensures { λ r. ⌜ r ≡ numberWithin self n ⌝ }
+    {
+        match self {
+            Domain::Any => true,
+            Domain::ObjectType => true,
+            Domain::PlusMinus => true,
+            Domain::NodeType => true,
+            Domain::Orientation => (n < 36000) & (n % 100 < 60),
+            Domain::Justification => (0 < n) & (n < 10),
+        }
+    }
+
+    // and whether a field's bytes are.
+    pub(crate) fn has(self, form: Form, t: &[u8]) -> bool
+        ensures { λ r. ⌜ r ≡ inDomain form self (now (t .entry)) ⌝ }
+    {
+        if form.is_n() {
+            self.has_number(get_number(t))
+        } else {
+            self.has_word(t)
         }
     }
 }
@@ -156,7 +185,7 @@ fn unfit(rec: &[u8], k: Kind, f: usize, form: Form, t: &[u8], sound: bool) -> bo
     ensures { λ r. ⌜ r ≡ (sound && outside form (domainAt k f) (now (t .entry)) (textOf (now (rec .entry)) k (f + 1))) ⌝ }
 {
     if sound {
-        !k.domain(f).has(t) | minus_zero(rec, k, f, form, t)
+        !k.domain(f).has(form, t) | minus_zero(rec, k, f, form, t)
     } else {
         false
     }

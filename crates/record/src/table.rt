@@ -47,6 +47,9 @@ fn domain_of(n: usize) -> Domain
     match n {
         1 => Domain::ObjectType,
         2 => Domain::PlusMinus,
+        3 => Domain::NodeType,
+        4 => Domain::Orientation,
+        5 => Domain::Justification,
         _ => Domain::Any,
     }
 }
@@ -191,12 +194,12 @@ impl Kind {
     {
         match self {
             Kind::Catalogo => 0x0000000000000100,
-            Kind::ObPun => 0x0002020200000000,
-            Kind::ObTex => 0x0020202000000000,
+            Kind::ObPun => 0x0002020204000000,
+            Kind::ObTex => 0x0020202540000000,
             Kind::ObLin => 0x0000002020200000,
             Kind::Tramo => 0x0000000200000000,
             Kind::Vertice => 0x0000000020202000,
-            Kind::Nodo => 0x0000000020202000,
+            Kind::Nodo => 0x0000000020202300,
         }
     }
 

@@ -6,10 +6,14 @@ use mathlib.Core.Bool.{Bool, not, _&&_, _||_}
 use mathlib.Core.List.{List}
 use lib.Dec.{ltb, eqb}
 use lib.ListN.{getD, take, drop}
+use Rattle.laws.specs.Row.{pick}
 use Rattle.field.specs.declared.class.Class.{Class}
 use Rattle.field.specs.declared.class.Class.the-variants.{Blank, Digit, Zero, Plain}
 use Rattle.field.specs.Bytes.{allOf}
-use Rattle.record.specs.Rules.{isSignByte}
+use Rattle.record.specs.declared.kind.Form.{Form}
+use Rattle.record.specs.declared.kind.Domain.{Domain}
+use Rattle.record.specs.Table.{isN}
+use Rattle.record.specs.Rules.{inDomain}
 
 -- w bytes from o on
 abbrev pub cut : List ℕ → ℕ → ℕ → List ℕ
@@ -26,26 +30,29 @@ full c t = ltb 32 (getD t 0 0) && allOf c t
 unfoldable pub fullOrBlank : Class → List ℕ → Bool
 fullOrBlank c t = full c t || allOf Blank t
 
--- a field and the bar after it: a number that may not be missing, a number or a text that may be, a CODIGO (none that begins with N
--- and has a blank for its third byte, as NA and ND do), a catalogue TIPO
+-- full by its form and within the domain; and the same, or blanks
+unfoldable pub fullIn : Form → Domain → List ℕ → Bool
+fullIn form domain t = full (pick (isN form) Digit Plain) t && inDomain form domain t
+
+unfoldable pub inOrBlank : Form → Domain → List ℕ → Bool
+inOrBlank form domain t = fullIn form domain t || allOf Blank t
+
+-- a field and the bar after it: a number that may not be missing, a number or a text that may be; the same of a field with a domain; a
+-- CODIGO (none that begins with N and has a blank for its third byte, as NA and ND do)
 unfoldable pub needAt : List ℕ → ℕ → ℕ → Bool
 needAt s o w = full Digit (cut s o w) && barAt s (o + w)
 
 unfoldable pub mayAt : Class → List ℕ → ℕ → ℕ → Bool
 mayAt c s o w = fullOrBlank c (cut s o w) && barAt s (o + w)
 
+unfoldable pub needInAt : Form → Domain → List ℕ → ℕ → ℕ → Bool
+needInAt form domain s o w = fullIn form domain (cut s o w) && barAt s (o + w)
+
+unfoldable pub mayInAt : Form → Domain → List ℕ → ℕ → ℕ → Bool
+mayInAt form domain s o w = inOrBlank form domain (cut s o w) && barAt s (o + w)
+
 unfoldable pub codeAt : List ℕ → ℕ → ℕ → Bool
 codeAt s o w = full Plain (cut s o w) && (not (eqb (getD (cut s o w) 0 0) 78) || not (eqb (getD (cut s o w) 2 0) 32)) && barAt s (o + w)
-
-unfoldable pub tipoAt : List ℕ → ℕ → ℕ → Bool
-tipoAt s o w =
-    full Plain (cut s o w)
-    && (eqb (getD (cut s o w) 0 0) 80 || eqb (getD (cut s o w) 0 0) 88 || eqb (getD (cut s o w) 0 0) 76 || eqb (getD (cut s o w) 0 0) 84)
-    && barAt s (o + w)
-
--- a sense, which is a record's last field
-unfoldable pub senseIn : List ℕ → Bool
-senseIn t = full Plain t && isSignByte (getD t 0 0) || allOf Blank t
 
 -- a sign; next is the number's text
 unfoldable pub signIn : List ℕ → List ℕ → Bool

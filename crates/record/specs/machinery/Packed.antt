@@ -9,7 +9,7 @@ use Rattle.record.specs.declared.kind.Kind.{Kind}
 use Rattle.record.specs.declared.kind.Form.{Form}
 use Rattle.record.specs.declared.kind.Form.the-variants.{Words, Code, Sign, Number, Size}
 use Rattle.record.specs.declared.kind.Domain.{Domain}
-use Rattle.record.specs.declared.kind.Domain.the-variants.{Any, ObjectType, PlusMinus}
+use Rattle.record.specs.declared.kind.Domain.the-variants.{Any, ObjectType, PlusMinus, NodeType, Orientation, Justification}
 use Rattle.record.specs.declared.kind.Target.{Target}
 use Rattle.record.specs.declared.kind.Target.the-variants.{Free, Nowhere, To}
 use Rattle.record.specs.declared.kind.Which.{Which}
@@ -31,9 +31,12 @@ abbrev pub domainDigit : Domain → ℕ
 domainDigit Any = 0
 domainDigit ObjectType = 1
 domainDigit PlusMinus = 2
+domainDigit NodeType = 3
+domainDigit Orientation = 4
+domainDigit Justification = 5
 
 unfoldable pub domainOf : ℕ → Domain
-domainOf n = getD (Any ∷ ObjectType ∷ PlusMinus ∷ []) n Any
+domainOf n = getD (Any ∷ ObjectType ∷ PlusMinus ∷ NodeType ∷ Orientation ∷ Justification ∷ []) n Any
 
 -- what a field refers to, by the number of a file and a field: 0 is nothing, 15 a file that is not there
 abbrev pub targetFile : Target → ℕ

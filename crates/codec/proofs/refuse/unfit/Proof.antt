@@ -11,6 +11,9 @@ enum-told c = search needs
 enum-told-2 : tie.Need-enum-told-2
 enum-told-2 c = search needs
 
+has-number-requires : tie.Need-has-number-requires
+has-number-requires c κs = search needs
+
 enum-told-3 : tie.Need-enum-told-3
 enum-told-3 c = search needs
 
@@ -23,20 +26,20 @@ slice-aggregate-part c = search needs
 part-requires : tie.Need-part-requires
 part-requires c κs = search needs
 
-has-requires : tie.Need-has-requires
-has-requires c κs = search needs
+has-word-requires : tie.Need-has-word-requires
+has-word-requires c κs = search needs
 
 returns-2 : tie.Need-returns-2
 returns-2 c = search needs
 
 returns-3 : tie.Need-returns-3
-returns-3 c = outside-number (c .before .before .before .args .form) (c .before .before .before .args .domain) (c .before .before .before .args .v) (c .enum-told2 .given .1)
+returns-3 c = outside-number (c .before .before .before .before .args .form) (c .before .before .before .before .args .domain) (c .before .before .before .before .args .v) (c .before .enum-told2 .given .1) (c .has-number .ensures)
 
 returns-4 : tie.Need-returns-4
 returns-4 c = outside-size (c .before .before .before .args .form) (c .before .before .before .args .domain) (c .before .before .before .args .v) (c .enum-told3 .given .1)
 
 returns-5 : tie.Need-returns-5
-returns-5 c = outside-text (c .before .before .before .before .before .before .args .form) (c .before .before .before .before .before .before .args .domain) (c .before .before .before .before .before .before .args .v) (c .before .before .before .before .match .keys4) (c .before .before .before .if1 .left) (c .before .part .ensures) (c .has .ensures)
+returns-5 c = outside-text (c .before .before .before .before .before .before .args .form) (c .before .before .before .before .before .before .args .domain) (c .before .before .before .before .before .before .args .v) (c .before .before .before .before .match .keys4) (c .before .before .before .if1 .left) (c .before .part .ensures) (c .has-word .ensures)
 
 pub unfit-spec : {M : Type 1} → statement M
 unfit-spec =
@@ -44,11 +47,12 @@ unfit-spec =
     (tie.spec
     enum-told
     enum-told-2
+    has-number-requires
     enum-told-3
     returns
     slice-aggregate-part
     part-requires
-    has-requires
+    has-word-requires
     returns-2
     returns-3
     returns-4

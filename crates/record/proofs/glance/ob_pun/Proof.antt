@@ -3,9 +3,11 @@
 use mathlib.Core.Path.{refl}
 use denote.Ref.{now}
 use Rattle.record.specs.declared.kind.Kind.the-variants.{ObPun}
+use Rattle.record.specs.declared.kind.Form.the-variants.{Number}
+use Rattle.record.specs.declared.kind.Domain.the-variants.{Orientation}
 use Rattle.record.specs.Table.{colAt, offsetAt}
 use Rattle.record.proofs.GlanceLaws.{seen-end, seen-fine, seen-none}
-use Rattle.record.proofs.GlanceSeen.{seen-need, seen-may, seen-code, seen-words, seen-position}
+use Rattle.record.proofs.GlanceSeen.{seen-need, seen-may, seen-may-in, seen-code, seen-words, seen-position}
 use borrow.Author.Needs.{needs}
 use Rattle.record.proofs.glance.ob_pun.Statement.{statement}
 use Rattle.record.proofs.glance.ob_pun.Tie as tie
@@ -31,11 +33,11 @@ code-requires c κs = search needs
 may-requires-3 : tie.Need-may-requires-3
 may-requires-3 c κs = search needs
 
+may-in-requires : tie.Need-may-in-requires
+may-in-requires c κs = search needs
+
 may-requires-4 : tie.Need-may-requires-4
 may-requires-4 c κs = search needs
-
-may-requires-5 : tie.Need-may-requires-5
-may-requires-5 c κs = search needs
 
 position-requires : tie.Need-position-requires
 position-requires c κs = search needs
@@ -52,8 +54,8 @@ returns-2 c =
     let p3 = seen-may s ObPun 3 p2 10 refl (f3 .may2 .ensures) in
     let p4 = seen-code s ObPun 4 p3 refl (f4 .code .ensures) in
     let p5 = seen-words s ObPun 5 p4 60 refl (f5 .may3 .ensures) in
-    let p6 = seen-may s ObPun 6 p5 5 refl (f6 .may4 .ensures) in
-    let p7 = seen-may s ObPun 7 p6 3 refl (f7 .may5 .ensures) in
+    let p6 = seen-may-in s ObPun 6 p5 Number Orientation 5 refl refl refl (f6 .may-in .ensures) in
+    let p7 = seen-may s ObPun 7 p6 3 refl (f7 .may4 .ensures) in
     seen-fine s ObPun (seen-position s ObPun 8 p7 refl (c .position .ensures))
 
 pub ob-pun-spec : {M : Type 1} → statement M
@@ -67,7 +69,7 @@ ob-pun-spec =
     may-requires-2
     code-requires
     may-requires-3
+    may-in-requires
     may-requires-4
-    may-requires-5
     position-requires
     returns-2)

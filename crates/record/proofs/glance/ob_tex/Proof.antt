@@ -3,9 +3,11 @@
 use mathlib.Core.Path.{refl}
 use denote.Ref.{now}
 use Rattle.record.specs.declared.kind.Kind.the-variants.{ObTex}
+use Rattle.record.specs.declared.kind.Form.the-variants.{Number}
+use Rattle.record.specs.declared.kind.Domain.the-variants.{Orientation, Justification}
 use Rattle.record.specs.Table.{colAt, offsetAt}
 use Rattle.record.proofs.GlanceLaws.{seen-end, seen-fine, seen-none}
-use Rattle.record.proofs.GlanceSeen.{seen-need, seen-may, seen-code, seen-words, seen-position}
+use Rattle.record.proofs.GlanceSeen.{seen-need, seen-may, seen-need-in, seen-may-in, seen-code, seen-words, seen-position}
 use borrow.Author.Needs.{needs}
 use Rattle.record.proofs.glance.ob_tex.Statement.{statement}
 use Rattle.record.proofs.glance.ob_tex.Tie as tie
@@ -34,11 +36,11 @@ need-requires-2 c κs = search needs
 may-requires-3 : tie.Need-may-requires-3
 may-requires-3 c κs = search needs
 
-may-requires-4 : tie.Need-may-requires-4
-may-requires-4 c κs = search needs
+may-in-requires : tie.Need-may-in-requires
+may-in-requires c κs = search needs
 
-need-requires-3 : tie.Need-need-requires-3
-need-requires-3 c κs = search needs
+need-in-requires : tie.Need-need-in-requires
+need-in-requires c κs = search needs
 
 position-requires : tie.Need-position-requires
 position-requires c κs = search needs
@@ -56,8 +58,8 @@ returns-2 c =
     let p4 = seen-words s ObTex 4 p3 60 refl (f4 .may2 .ensures) in
     let p5 = seen-need s ObTex 5 p4 3 refl (f5 .need2 .ensures) in
     let p6 = seen-may s ObTex 6 p5 3 refl (f6 .may3 .ensures) in
-    let p7 = seen-may s ObTex 7 p6 5 refl (f7 .may4 .ensures) in
-    let p8 = seen-need s ObTex 8 p7 1 refl (f8 .need3 .ensures) in
+    let p7 = seen-may-in s ObTex 7 p6 Number Orientation 5 refl refl refl (f7 .may-in .ensures) in
+    let p8 = seen-need-in s ObTex 8 p7 Number Justification 1 refl refl refl (f8 .need-in .ensures) in
     seen-fine s ObTex (seen-position s ObTex 9 p8 refl (c .position .ensures))
 
 pub ob-tex-spec : {M : Type 1} → statement M
@@ -72,7 +74,7 @@ ob-tex-spec =
     may-requires-2
     need-requires-2
     may-requires-3
-    may-requires-4
-    need-requires-3
+    may-in-requires
+    need-in-requires
     position-requires
     returns-2)

@@ -3,10 +3,12 @@
 use mathlib.Core.Path.{refl, ap, _∙_}
 use denote.Ref.{now}
 use Rattle.record.specs.declared.kind.Kind.the-variants.{Tramo}
+use Rattle.record.specs.declared.kind.Form.the-variants.{Words}
+use Rattle.record.specs.declared.kind.Domain.the-variants.{PlusMinus}
 use Rattle.record.specs.Table.{colAt, offsetAt}
-use Rattle.record.specs.machinery.Glance.{senseIn}
+use Rattle.record.specs.machinery.Glance.{inOrBlank}
 use Rattle.record.proofs.GlanceLaws.{seen-end, seen-fine, seen-none}
-use Rattle.record.proofs.GlanceSeen.{seen-need, seen-may, seen-code, seen-sense}
+use Rattle.record.proofs.GlanceSeen.{seen-need, seen-may, seen-code, seen-last-in}
 use borrow.Author.Needs.{needs}
 use Rattle.record.proofs.glance.tramo.Statement.{statement}
 use Rattle.record.proofs.glance.tramo.Tie as tie
@@ -41,8 +43,8 @@ need-requires-4 c κs = search needs
 part-requires : tie.Need-part-requires
 part-requires c κs = search needs
 
-is-sense-requires : tie.Need-is-sense-requires
-is-sense-requires c κs = search needs
+is-in-or-blank-requires : tie.Need-is-in-or-blank-requires
+is-in-or-blank-requires c κs = search needs
 
 returns-2 : tie.Need-returns-2
 unfolding colAt offsetAt
@@ -58,7 +60,7 @@ returns-2 c =
     let p5 = seen-code s Tramo 5 p4 refl (f5 .code .ensures) in
     let p6 = seen-need s Tramo 6 p5 10 refl (f6 .need3 .ensures) in
     let p7 = seen-need s Tramo 7 p6 10 refl (f7 .need4 .ensures) in
-    seen-fine s Tramo (seen-sense s Tramo 8 p7 refl refl (c .is-sense .ensures ∙ ap senseIn (c .before .part .ensures)))
+    seen-fine s Tramo (seen-last-in s Tramo 8 p7 Words PlusMinus 1 refl refl refl refl (c .is-in-or-blank .ensures ∙ ap (inOrBlank Words PlusMinus) (c .before .part .ensures)))
 
 pub tramo-spec : {M : Type 1} → statement M
 tramo-spec =
@@ -74,5 +76,5 @@ tramo-spec =
     need-requires-3
     need-requires-4
     part-requires
-    is-sense-requires
+    is-in-or-blank-requires
     returns-2)

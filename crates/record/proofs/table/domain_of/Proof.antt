@@ -14,7 +14,19 @@ unfolding domainOf
 returns-2 c = rw (c .match .keys2)
 
 returns-3 : tie.Need-returns-3
-returns-3 c = domain-rest _ (c .match .rest)
+unfolding domainOf
+returns-3 c = rw (c .match .keys3)
+
+returns-4 : tie.Need-returns-4
+unfolding domainOf
+returns-4 c = rw (c .match .keys4)
+
+returns-5 : tie.Need-returns-5
+unfolding domainOf
+returns-5 c = rw (c .match .keys5)
+
+returns-6 : tie.Need-returns-6
+returns-6 c = domain-rest _ (c .match .rest)
 
 pub domain-of-spec : {M : Type 1} → statement M
-domain-of-spec = tie.close (tie.spec returns returns-2 returns-3)
+domain-of-spec = tie.close (tie.spec returns returns-2 returns-3 returns-4 returns-5 returns-6)

@@ -88,6 +88,9 @@ enum-told-27 c = search needs
 enum-told-28 : tie.Need-enum-told-28
 enum-told-28 c = search needs
 
+enum-told-29 : tie.Need-enum-told-29
+enum-told-29 c = search needs
+
 returns : tie.Need-returns
 returns c = simp (c .enum-told .given .1)
 
@@ -172,6 +175,9 @@ returns-27 c = simp (c .enum-told27 .given .1)
 returns-28 : tie.Need-returns-28
 returns-28 c = simp (c .enum-told28 .given .1)
 
+returns-29 : tie.Need-returns-29
+returns-29 c = simp (c .enum-told29 .given .1)
+
 pub number-spec : {M : Type 1} → statement M
 number-spec =
     tie.close
@@ -204,6 +210,7 @@ number-spec =
     enum-told-26
     enum-told-27
     enum-told-28
+    enum-told-29
     returns
     returns-2
     returns-3
@@ -231,4 +238,5 @@ number-spec =
     returns-25
     returns-26
     returns-27
-    returns-28)
+    returns-28
+    returns-29)
