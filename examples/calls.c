@@ -555,6 +555,21 @@ static void check_counts(void)
     CHECK(has(&d, NODO, 5, 5)); /* 56 three times, 54 twice */
 }
 
+/* Each code of a node, where S's second one is an end and not intermediate. */
+static void check_codes(void)
+{
+    static const char codes[] = "ACEIH e";
+    static const uint64_t told[] = {CANOPYRAIL_OTHER_KIND, 0, 0, CANOPYRAIL_OTHER_KIND, CANOPYRAIL_OTHER_KIND, 0, CANOPYRAIL_OUTSIDE};
+
+    for (size_t i = 0; codes[i] != 0; i++) {
+        const char code[] = {codes[i], 0};
+        delivery d = changed(NODO, 2, 2, code);
+
+        CHECK(told[i] ? is(judge(&d), told[i], NODO, 2, 2, 0) : judge(&d) == 0);
+        CHECK(has(&d, NODO, told[i] == CANOPYRAIL_OUTSIDE ? 2 : 5, told[i] != 0));
+    }
+}
+
 /* Fewer entries than files, more entries than files, and entries that are null, as in judging. */
 static void check_counted_entries(void)
 {
@@ -1012,6 +1027,42 @@ static void check_texts(void)
     CHECK(refuses(write_exactly(CATALOGO, &v, FIELDS, 133), CANOPYRAIL_BAD_TEXT, 2));
 }
 
+/* Numbers that have a domain, and a node's codes. */
+static void check_domains(void)
+{
+    static const struct {
+        uint64_t orientation;
+        uint64_t refused;
+    } angles[] = {{0, 0}, {59, 0}, {60, CANOPYRAIL_UNFIT}, {35959, 0}, {35960, CANOPYRAIL_UNFIT}, {36000, CANOPYRAIL_UNFIT},
+                  {99999, CANOPYRAIL_UNFIT}, {100000, CANOPYRAIL_TOO_LARGE}};
+    canopyrail_values v = no_values();
+
+    give_number(&v, 1, 7);
+    give_text(&v, 3, "0300000");
+    give_number(&v, 5, 0);
+    give_number(&v, 8, 1);
+    give_coordinate(&v, 10, 0);
+    give_coordinate(&v, 12, 0);
+    for (size_t i = 0; i < sizeof angles / sizeof *angles; i++) {
+        uint64_t answer;
+        give_number(&v, 7, angles[i].orientation);
+        answer = write_exactly(OB_TEX, &v, FIELDS, 144);
+        CHECK(angles[i].refused ? refuses(answer, angles[i].refused, 7) : answer == 0);
+    }
+    give_number(&v, 7, 0);
+    give_number(&v, 8, 9);
+    CHECK(write_exactly(OB_TEX, &v, FIELDS, 144) == 0);
+    give_number(&v, 8, 10);
+    CHECK(refuses(write_exactly(OB_TEX, &v, FIELDS, 144), CANOPYRAIL_TOO_LARGE, 8));
+    give_number(&v, 8, 0);
+    CHECK(refuses(write_exactly(OB_TEX, &v, FIELDS, 144), CANOPYRAIL_UNFIT, 8));
+    v = node_at(100, 200);
+    give_text(&v, 2, "H");
+    CHECK(write_exactly(NODO, &v, FIELDS, 50) == 0);
+    give_text(&v, 2, "h");
+    CHECK(refuses(write_exactly(NODO, &v, FIELDS, 50), CANOPYRAIL_UNFIT, 2));
+}
+
 /* The no-break blank A0 may stand within a text, and neither begin nor end it. */
 static void check_no_break_blanks(void)
 {
@@ -1046,6 +1097,7 @@ static void check_all(void)
     check_long_file();
     check_beginnings();
     check_counts();
+    check_codes();
     check_counted_entries();
     check_counted_room();
     check_sums();
@@ -1057,6 +1109,7 @@ static void check_all(void)
     check_write_refusals();
     check_short_arrays();
     check_texts();
+    check_domains();
     check_no_break_blanks();
 }
 

@@ -90,7 +90,7 @@ static size_t given(const held files[FILES])
 
 static int is_reason(uint64_t reason)
 {
-    static const unsigned char table[] = {10, 11, 20, 21, 22, 23, 24, 25, 30, 40, 41, 50, 51, 52, 53, 54, 55, 56, 57};
+    static const unsigned char table[] = {10, 11, 20, 21, 22, 23, 24, 25, 30, 40, 41, 50, 51, 52, 53, 54, 55, 56, 57, 58};
     for (size_t i = 0; i < sizeof table; i++)
         if (table[i] == reason)
             return 1;
@@ -294,7 +294,7 @@ static size_t change_record(uint8_t *data, size_t size, unsigned int *seed)
         case 2: memset(one + from, ' ', width); break;
         case 3: memset(one + from, '0', width); one[from + width - 1] = (uint8_t)('0' + next(seed) % 10); break;
         case 4: one[from + next(seed) % width] = (uint8_t)('0' + next(seed) % 10); break;
-        case 5: one[from] = (uint8_t)"+- PXLT|"[next(seed) % 8]; break;
+        case 5: one[from] = (uint8_t)"+- PXLT|ACEIH"[next(seed) % 13]; break;
         case 6: LLVMFuzzerMutate(one + from, width, width); break;
         case 7: one[from + next(seed) % width] = 0xA0; break;
         default: one[next(seed) % length] = (uint8_t)next(seed); break;

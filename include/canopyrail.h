@@ -38,7 +38,7 @@ extern "C" {
 /* The version of this header, and as one number; canopyrail_version() tells the archive's. */
 #define CANOPYRAIL_VERSION_MAJOR 0
 #define CANOPYRAIL_VERSION_MINOR 2
-#define CANOPYRAIL_VERSION_PATCH 2
+#define CANOPYRAIL_VERSION_PATCH 3
 #define CANOPYRAIL_VERSION (CANOPYRAIL_VERSION_MAJOR * 10000 + CANOPYRAIL_VERSION_MINOR * 100 + CANOPYRAIL_VERSION_PATCH)
 
 /* How many files a delivery has, and their numbers. */
@@ -79,7 +79,7 @@ enum canopyrail_reason_number {
     CANOPYRAIL_NOT_TEXT = 23,         /* an A field has a byte outside 20-7E and A0-FF, begins with a blank and isn't all blank, or its
                                          text, without the blanks after it, begins or ends in the no-break blank A0 */
     CANOPYRAIL_MISSING = 24,          /* missing where it may not be, or blank while its partner isn't */
-    CANOPYRAIL_OUTSIDE = 25,          /* outside its domain; - before zero is told at the sign */
+    CANOPYRAIL_OUTSIDE = 25,          /* outside its domain (types, signs, SENTIDO, ORIENTAC, JUSTIFI); - before zero is told at the sign */
     CANOPYRAIL_SAME_KEY = 30,         /* the key equals that of an earlier record of the file; other: that record */
     CANOPYRAIL_NO_RECORD = 40,        /* a reference names no record */
     CANOPYRAIL_OTHER_TYPE = 41,       /* the code is catalogued under another type; other: that type's letter, as a byte */
@@ -89,8 +89,9 @@ enum canopyrail_reason_number {
     CANOPYRAIL_END_ELSEWHERE = 53,    /* the line's vertex of highest order lies elsewhere in X or Y than the end node */
     CANOPYRAIL_SAME_PLACE = 54,       /* same X, Y, Z as an earlier node; other: that record */
     CANOPYRAIL_POINT_ELSEWHERE = 55,  /* a point object differs in X or Y from the node it names */
-    CANOPYRAIL_IDLE_NODE = 56,        /* a node that starts or ends no tramo, is at no vertex, and is named by no point object */
+    CANOPYRAIL_IDLE_NODE = 56,        /* a node that starts or ends no tramo, is at no vertex, and is named by fewer than 2 point objects */
     CANOPYRAIL_IDLE_OBJECT = 57,      /* a linear object named by no tramo */
+    CANOPYRAIL_OTHER_KIND = 58,       /* a node's TIPO says another kind of node (isolated, end, intermediate) than it is: NODO, field 2 */
     CANOPYRAIL_NO_LAST_VERTEX = 59,   /* a tramo whose line has no vertex of highest order (never told first) */
     /* of the calls on one record */
     CANOPYRAIL_NO_FILE = 60,          /* the file number is outside 1 to 7: field 0 */
@@ -98,7 +99,7 @@ enum canopyrail_reason_number {
     CANOPYRAIL_TOO_LARGE = 62,        /* writing: the value is too large for its digits */
     CANOPYRAIL_BAD_TEXT = 63,         /* writing: the text is too long, has a byte outside the A set, or begins or ends in a blank or A0 */
     CANOPYRAIL_NOT_GIVEN = 64,        /* writing: missing where it may not be, by the partner rule too */
-    CANOPYRAIL_UNFIT = 65,            /* writing: outside its domain */
+    CANOPYRAIL_UNFIT = 65,            /* writing: a text or a number outside its domain */
     CANOPYRAIL_NO_SUCH_RECORD = 66,   /* reading: the record number is 0 or above the whole records in hand: field 0 */
     /* of the calls on grids, besides 61 */
     CANOPYRAIL_SUM_TOO_LARGE = 67     /* a cell of two grids' sum is over 9,999,999,999 */

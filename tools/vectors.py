@@ -7,8 +7,9 @@ writes FOLDER/data/ (files of fixed records), FOLDER/args (the names, one a
 line, in the order to be read) and FOLDER/stdout (the expected output).
 
 Made from documents alone: document 01 (requirements and rules), its readings
-(R01 to R16), document 02's request W-202 (a text neither begins nor ends in
-byte A0), and source 000 (MIGRA v1, sections 5.1 to 5.6 and chapter 10).
+(R01 to R16), document 02's requests W-202 (a text neither begins nor ends in
+byte A0) and W-203 (domains of orientation, justification and NODO TIPO), and
+source 000 (MIGRA v1, sections 5.1 to 5.6 and chapter 10).
 No code of the project was read.
 
 The first character of a data file's name is the MIGRA file number.
@@ -34,6 +35,9 @@ import sys
 #         A    text
 #         CODE text CODIGO: NA and ND count as missing
 #         TYPE catalogue TIPO: P, X, L or T
+#         NODE NODO TIPO: A, C, E, I or H (5.6.11)
+#         TURN orientation: degrees 000 to 359 and minutes 00 to 59 (5.6.6)
+#         JUST justification: 1 to 9 (5.6.7)
 #         WAY  TRAMO sense: + or -
 #         SIGN sign of the number in the next field
 #         COOR number whose sign stands in the field before
@@ -54,12 +58,12 @@ LAYOUT = {
         ('NOMBRE_C', 'A', 60, False), ('DEFINICI', 'A', 60, False)],
     2: [('ID_OPUN', 'N', 10, True), ('ID_OCOMP', 'N', 10, False),
         ('ID_NODO', 'N', 10, False), ('CODIGO', 'CODE', 7, True),
-        ('NOMBRE_I', 'A', 60, False), ('ORIENTAC', 'N', 5, False),
+        ('NOMBRE_I', 'A', 60, False), ('ORIENTAC', 'TURN', 5, False),
         ('M', 'N', 3, False)] + six(True),
     3: [('ID_OTEX', 'N', 10, True), ('ID_OCOMP', 'N', 10, False),
         ('CODIGO', 'CODE', 7, True), ('LITERAL', 'A', 60, False),
         ('ALTURA', 'N', 3, True), ('ANCHURA', 'N', 3, False),
-        ('ORIENTAC', 'N', 5, False), ('JUSTIFI', 'N', 1, True)] + six(True),
+        ('ORIENTAC', 'TURN', 5, False), ('JUSTIFI', 'JUST', 1, True)] + six(True),
     4: [('ID_OLIN', 'N', 10, True), ('ID_OCOMP', 'N', 10, False),
         ('CODIGO', 'CODE', 7, True), ('NOMBRE_I', 'A', 60, False)] + six(False),
     5: [('ID_TRAMO', 'N', 10, True), ('ID_OLIN', 'N', 10, True),
@@ -67,7 +71,7 @@ LAYOUT = {
         ('CODIGO', 'CODE', 7, True), ('ID_NODOI', 'N', 10, True),
         ('ID_NODOF', 'N', 10, True), ('SENTIDO', 'WAY', 1, False)],
     6: [('ID_LINEA', 'N', 10, True), ('NO_ORDEN', 'N', 5, True)] + six(True),
-    7: [('ID_NODO', 'N', 10, True), ('TIPO', 'A', 1, False)] + six(True),
+    7: [('ID_NODO', 'N', 10, True), ('TIPO', 'NODE', 1, False)] + six(True),
 }
 
 FILE_NAME = {1: 'CATALOGO', 2: 'OB_PUN', 3: 'OB_TEX', 4: 'OB_LIN',
@@ -82,7 +86,7 @@ def record_length(k):
 
 
 def is_number(kind):
-    return kind in ('N', 'COOR')
+    return kind in ('N', 'TURN', 'JUST', 'COOR')
 
 
 # ---------------------------------------------------------------------------
@@ -179,6 +183,12 @@ def breaks_of(k, record):
             found.add((no, 25))
         if kind == 'WAY' and field not in (b'+', b'-'):
             found.add((no, 25))
+        if kind == 'NODE' and field not in (b'A', b'C', b'E', b'I', b'H'):
+            found.add((no, 25))
+        if kind == 'TURN' and (int(field[:3]) > 359 or int(field[3:]) > 59):
+            found.add((no, 25))
+        if kind == 'JUST' and field == b'0':
+            found.add((no, 25))
         if kind == 'SIGN':
             number = fields[i + 1]
             if field not in (b'+', b'-'):
@@ -198,7 +208,7 @@ def values_of(k, record):
             continue
         if blank(field):
             values.append(None)
-        elif kind == 'N':
+        elif kind in ('N', 'TURN', 'JUST'):
             values.append(int(field))
         elif kind == 'COOR':
             number = int(field)
@@ -222,7 +232,7 @@ def written(k, values):
         value = left.pop(0)
         if value is None:
             cells.append(b' ' * width)
-        elif kind == 'N':
+        elif kind in ('N', 'TURN', 'JUST'):
             cells.append(b'%0*d' % (width, value))
         elif kind == 'COOR':
             cells.append(b'%0*d' % (width, abs(value[1])))
@@ -978,17 +988,22 @@ def number_damage(d, no):
 
 
 def extremes(d):
-    """Lawful: all numbers greatest, with - before them; all numbers 0 with +."""
+    """Lawful: all numbers greatest, with - before them; all numbers least with
+    +.  An orientation is at most 35959, a justification at least 1."""
     nines, zeros = {}, {}
     for no in d.numbers():
         if is_number(d.kind(no)):
             nines[no] = b'9' * d.width(no)
             zeros[no] = b'0' * d.width(no)
+            if d.kind(no) == 'TURN':
+                nines[no] = b'35959'
+            if d.kind(no) == 'JUST':
+                zeros[no] = b'1'
         elif d.kind(no) == 'SIGN':
             nines[no] = b'-'
             zeros[no] = b'+'
-    d.put('all numbers nines', None, nines)
-    d.put('all numbers zero', None, zeros)
+    d.put('all numbers greatest', None, nines)
+    d.put('all numbers least', None, zeros)
     # all that may be missing missing: optional fields, and Z or the centroid
     spare = {}
     for no in d.numbers():
@@ -999,6 +1014,17 @@ def extremes(d):
         elif d.k == 4 and no >= 5:
             spare[no] = b''
     d.put('all that may be missing', None, spare)
+
+
+def turn_damage(d, no):
+    """An orientation: degrees past 359, minutes past 59, and near misses."""
+    for angle in (b'00000', b'00059', b'00100', b'09959', b'35900', b'35959'):
+        d.put('orientation %r' % angle, None, {no: angle})
+    for angle in (b'00060', b'00099', b'35960', b'36000', b'36059', b'36060',
+                  b'99959', b'99999'):
+        d.put('orientation %r' % angle, (25, no), {no: angle})
+    d.put('orientation 359 and blanks', (22, no), {no: b'359'})
+    d.put('orientation 360.0', (22, no), {no: b'360.0'})
 
 
 def damage_1():
@@ -1026,6 +1052,7 @@ def damage_2():
     text_damage(d, 4, True)
     text_damage(d, 5, False)
     sign_damage(d, 8)
+    turn_damage(d, 6)
     number_damage(d, 7)
     extremes(d)
     orders(d, 9, 4)
@@ -1038,6 +1065,10 @@ def damage_3():
     text_damage(d, 3, True)
     text_damage(d, 4, False)
     sign_damage(d, 9)
+    turn_damage(d, 7)
+    for j in b'123456789':
+        d.put('justification %c' % j, None, {8: bytes([j])})
+    d.put('justification 0', (25, 8), {8: b'0'})
     number_damage(d, 8)
     extremes(d)
     orders(d, 3, 5)
@@ -1112,9 +1143,11 @@ def damage_7():
     sign_damage(d, 3)
     sign_by_number(d, 3, False)
     sign_by_number(d, 7, True)
-    # NODO TIPO: any byte of the A set but A0 (W-202), or blank (R09)
-    for t in (b'?', b'|', b'0', b'\x7e', b'\xa1', b'\xff'):
+    # NODO TIPO: a code of 5.6.11 in capitals, or blank (W-203)
+    for t in (b'A', b'C', b'E', b'I', b'H'):
         d.put('TIPO %r' % t, None, {2: t})
+    for t in (b'a', b'e', b'h', b'P', b'B', b'D', b'?', b'|', b'0', b'\x7e', b'\xa1', b'\xff'):
+        d.put('TIPO %r' % t, (25, 2), {2: t})
     for t in (b'\x1f', b'\x7f', b'\x80', b'\x9f', b'\xa0'):
         d.put('TIPO %r' % t, (23, 2), {2: t})
     number_damage(d, 1)

@@ -3,6 +3,7 @@
 pub mod bytes;
 mod likeness;
 mod lines;
+mod nodes;
 mod references;
 
 use canopyrail::{names, Break, Reason, Verdict, FILES};
@@ -126,8 +127,9 @@ fn here(page: &mut Page, delivery: &Delivery, b: &Break) {
         Reason::StartElsewhere | Reason::EndElsewhere => lines::line_end(page, delivery, b),
         Reason::SamePlace => lines::same_place(page, delivery, b),
         Reason::PointElsewhere => lines::point_elsewhere(page, delivery, b),
-        Reason::IdleNode => lines::idle_node(page, delivery, b),
+        Reason::IdleNode => nodes::idle_node(page, delivery, b),
         Reason::IdleObject => lines::idle_object(page, delivery, b),
+        Reason::OtherKind => nodes::other_kind(page, delivery, b),
         _ => {
             let text =
                 bytes::field_here(b.file, delivery.record(b.file, b.record), b.reason, b.field);

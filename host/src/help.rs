@@ -56,7 +56,7 @@ Judges the delivery in DIR and prints one line:
      |  | +--------- record, counted from 1; 00000: the file as a whole
      |  +----------- file: 1 CATALOGO, 2 OB_PUN, 3 OB_TEX, 4 OB_LIN, 5 TRAMO, 6 VERTICE, 7 NODO
      +-------------- reason: 10-11 the file, 20-25 a record's bytes, 30 a key used twice,
-                     40-41 something named that is not there, 50-57 lines and nodes
+                     40-41 something named that is not there, 50-58 lines and nodes
 
 The first fault in a fixed order is told; there may be more behind it. `canopyrail explain DIR` says
 it in words, `canopyrail grid DIR` counts those of its kind.

@@ -44,10 +44,12 @@ pub enum Reason {
     SamePlace = 54,
     /// A point object lies elsewhere than the node it names.
     PointElsewhere = 55,
-    /// A node is used by nothing.
+    /// A node stands alone, and fewer than two point objects name it.
     IdleNode = 56,
     /// A linear object is named by no tramo.
     IdleObject = 57,
+    /// A node's TIPO says another kind of node than it is.
+    OtherKind = 58,
     /// A tramo's line has no last vertex; never told first.
     NoLastVertex = 59,
     /// There is no file of the number.
@@ -70,7 +72,7 @@ pub enum Reason {
 
 impl Reason {
     /// Every reason, by number.
-    pub const ALL: [Reason; 28] = [
+    pub const ALL: [Reason; 29] = [
         Reason::LongFile,
         Reason::RaggedFile,
         Reason::BadEnd,
@@ -90,6 +92,7 @@ impl Reason {
         Reason::PointElsewhere,
         Reason::IdleNode,
         Reason::IdleObject,
+        Reason::OtherKind,
         Reason::NoLastVertex,
         Reason::NoFile,
         Reason::ShortRoom,

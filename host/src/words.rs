@@ -94,10 +94,14 @@ pub const fn of(reason: Reason) -> Words {
         Reason::Outside => Words {
             wrong: "The field holds something that it may not.",
             rule: "The catalogue's TIPO is P, X, L or T. A sign is + or -, and - never stands \
-                   before zero. A tramo's SENTIDO is +, - or blank.",
-            look: "The field: a type that is not P, X, L or T, a sign that is not + or -, - before \
-                   zero.",
-            ask: "To use MIGRA's letters and signs, and to write zero with +.",
+                   before zero. A tramo's SENTIDO is +, - or blank. A node's TIPO is A, C, E, I, H \
+                   or blank, in capitals. An orientation has degrees from 000 to 359 and minutes \
+                   from 00 to 59. A text's justification is 1 to 9.",
+            look: "The field: a type that is not P, X, L or T (in NODO not A, C, E, I or H), a sign \
+                   that is not + or -, - before zero, an orientation past 35959 or with more than \
+                   59 minutes, a justification of 0.",
+            ask: "To use MIGRA's letters and signs, to write zero with +, and to write angles as \
+                  degrees and minutes, not with decimals.",
         },
         Reason::SameKey => Words {
             wrong: "The record's key was used by an earlier record of the file.",
@@ -177,19 +181,31 @@ pub const fn of(reason: Reason) -> Words {
                   id.",
         },
         Reason::IdleNode => Words {
-            wrong: "The node is used by nothing: no tramo starts or ends there, no vertex is there, no \
-                    point object names it.",
-            rule:
-                "A node starts or ends a tramo, or has the X and Y of a vertex, or is named by a \
-                   point object.",
+            wrong: "The node stands alone: no tramo starts or ends there, no vertex is there, and \
+                    fewer than two point objects name it.",
+            rule: "A node starts or ends a tramo, or has the X and Y of a vertex, or is named by at \
+                   least two point objects.",
             look: "The node's id in TRAMO and OB_PUN, and its X and Y in VERTICE.",
-            ask: "To leave the node out, or to send what uses it.",
+            ask: "To leave the node out, or to send what uses it. A single point object needs no \
+                  node.",
         },
         Reason::IdleObject => Words {
             wrong: "No tramo belongs to the linear object.",
             rule: "Every linear object is named by at least one tramo.",
             look: "The object's id, and field 2 of TRAMO.",
             ask: "To send the object's tramos, or to leave the object out.",
+        },
+        Reason::OtherKind => Words {
+            wrong: "The node's TIPO says another kind of node than it is.",
+            rule: "A node is an end where it starts or ends a tramo or has the X and Y of a line's \
+                   first or last vertex, and intermediate where it has those of another vertex. A \
+                   (isolated) is for a node that is neither, E (end) for an end alone, I \
+                   (intermediate) for an intermediate node alone, H for one that is both, C \
+                   (connected) for any that is not isolated. A blank says nothing.",
+            look: "The node's letter, its id in TRAMO, and its X and Y among the vertices of all \
+                   lines.",
+            ask: "To write the letter that fits, or C or a blank where it isn't known. If the letter \
+                  is right: whether a vertex was moved or lost, or a line cut or joined.",
         },
         Reason::NoLastVertex => Words {
             wrong: "The tramo's line has no last vertex.",
@@ -237,8 +253,10 @@ pub const fn of(reason: Reason) -> Words {
         },
         Reason::Unfit => Words {
             wrong: "The value is outside its domain.",
-            rule: "The catalogue's TIPO is P, X, L or T; a tramo's SENTIDO is + or - or missing.",
-            look: "The field's text.",
+            rule: "The catalogue's TIPO is P, X, L or T; a tramo's SENTIDO is + or - or missing; a \
+                   node's TIPO is A, C, E, I or H or missing; an orientation has degrees from 000 \
+                   to 359 and minutes from 00 to 59; a text's justification is 1 to 9.",
+            look: "The field's text or number.",
             ask: "Give one of the values that the field may have.",
         },
         Reason::NoSuchRecord => Words {

@@ -118,7 +118,7 @@ fn damaged_deliveries_get_the_same_line_and_every_reason_comes_up() {
     }
     // 59 can't come first: the reference to a line without a vertex is 40
     for reason in [
-        0, 10, 11, 20, 21, 22, 23, 24, 25, 30, 40, 41, 50, 51, 52, 53, 54, 55, 56, 57,
+        0, 10, 11, 20, 21, 22, 23, 24, 25, 30, 40, 41, 50, 51, 52, 53, 54, 55, 56, 57, 58,
     ] {
         assert!(told[reason] > 0, "reason {reason} never came up");
     }

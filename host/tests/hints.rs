@@ -63,7 +63,7 @@ fn held(period: u64, many: usize) {
     let places = falling_together(many, period);
     let (verdict, ours, theirs) = lines(&delivery(&places));
     assert_eq!(ours, theirs);
-    assert_eq!(verdict, Verdict::Accepted([1, many, 0, 0, 0, 0, many]));
+    assert_eq!(verdict, Verdict::Accepted([1, 2 * many, 0, 0, 0, 0, many]));
 
     // the last node where an earlier one is: told with the earlier one's number
     let mut twins = places;

@@ -83,6 +83,9 @@ fn odd_text(random: &mut Random) -> Vec<u8> {
             b"X",
             b"L",
             b"T",
+            b"A",
+            b"H",
+            b"e",
             b"+",
             b"-",
             b"0100000",
@@ -92,7 +95,7 @@ fn odd_text(random: &mut Random) -> Vec<u8> {
             b"NA\xA0",
             b"\xA0x",
             b"x\xA0x",
-        ][random.below(15) as usize]
+        ][random.below(18) as usize]
             .to_vec();
     }
     text
@@ -105,6 +108,16 @@ fn odd_number(random: &mut Random) -> u64 {
         1 => 10u64.checked_pow(digits).unwrap_or(u64::MAX) - 1,
         2 => random.next(),
         _ => random.below(100),
+    }
+}
+
+/// An orientation at or past the edge of degrees or minutes.
+fn odd_angle(random: &mut Random) -> u64 {
+    let degrees = random.pick(&[0, 1, 99, 359, 360, 999, 1_000]);
+    let minutes = random.pick(&[0, 1, 59, 60, 99]);
+    match random.below(4) {
+        0 => odd_number(random),
+        _ => 100 * degrees + minutes,
     }
 }
 
@@ -124,6 +137,8 @@ fn odd_value(random: &mut Random, file: usize, field: usize) -> canopyrail::Valu
     }
     match independent::form(file, field) {
         independent::Form::Number => canopyrail::Value::Number(odd_number(random)),
+        independent::Form::Orientation => canopyrail::Value::Number(odd_angle(random)),
+        independent::Form::Justification => canopyrail::Value::Number(random.below(12)),
         independent::Form::Size => canopyrail::Value::Coordinate(odd_coordinate(random)),
         independent::Form::Sign => canopyrail::Value::Missing,
         _ => canopyrail::Value::Text(odd_text(random)),
@@ -246,7 +261,9 @@ fn values_of_another_form_are_refused() {
 
 fn lawful_value(file: usize, field: usize) -> canopyrail::Value {
     match independent::form(file, field) {
-        independent::Form::Number => canopyrail::Value::Number(1),
+        independent::Form::Number
+        | independent::Form::Orientation
+        | independent::Form::Justification => canopyrail::Value::Number(1),
         independent::Form::Size => canopyrail::Value::Coordinate(1),
         independent::Form::Sign => canopyrail::Value::Missing,
         independent::Form::Tipo => canopyrail::Value::Text(b"P".to_vec()),

@@ -3,6 +3,7 @@
 
 use std::collections::BTreeSet;
 
+use crate::kinds::mend_codes;
 use crate::layout::{CATALOGO, NODO, OB_LIN, OB_PUN, OB_TEX, TRAMO, TYPES, VERTICE};
 use crate::model::{Catalogo, Model, Nodo, ObLin, ObPun, ObTex, Posicion, Tramo, Vertice};
 use crate::random::Random;
@@ -186,7 +187,7 @@ fn graft_text(random: &mut Random, model: &mut Model, codigo: &[u8], place: (i64
         altura: Some(0),
         anchura: None,
         orientac: Some(35_959),
-        justifi: Some(0),
+        justifi: Some(9),
         posicion: Posicion::at(place, None),
     };
     slip_in(random, &mut model.ob_tex, record);
@@ -206,6 +207,8 @@ pub fn fill(random: &mut Random, model: &mut Model, file: usize, count: usize) {
         NODO => fill_nodo(model, count),
         _ => panic!("there are seven files"),
     }
+    // What was added may pass by nodes that were there.
+    mend_codes(random, model);
     crate::lawful::shuffle_files(random, model);
 }
 

@@ -5,12 +5,13 @@
 use std::collections::{BTreeMap, BTreeSet};
 
 use crate::full::MOST_RECORDS;
+use crate::kinds::{lawful_code, Kinds};
 use crate::layout::TYPES;
 use crate::model::{Catalogo, Model, Nodo, ObLin, ObPun, ObTex, Posicion, Tramo, Vertice};
 use crate::random::Random;
 use crate::values::{
-    any_id, coordinate, fresh_code, height, ids, optional, take_id, text, visible_byte, X_MOST,
-    Y_MOST, Z_MOST,
+    any_id, coordinate, fresh_code, height, ids, justification, optional, orientation, take_id,
+    text, X_MOST, Y_MOST, Z_MOST,
 };
 
 /// How many records a file holds.
@@ -167,7 +168,16 @@ fn lay(random: &mut Random, counts: &Counts, spread: Spread) -> Model {
         nodo: ground.nodes,
     };
     give_codes(random, &mut model, counts.catalogo);
+    give_node_codes(random, &mut model);
     model
+}
+
+/// A code for part of the nodes, by what each is.
+fn give_node_codes(random: &mut Random, model: &mut Model) {
+    let kinds = Kinds::of(model);
+    for node in &mut model.nodo {
+        node.tipo = lawful_code(random, kinds.kind(node));
+    }
 }
 
 /// The X and Y of each line's vertices, in order.
@@ -238,7 +248,7 @@ struct Ground {
     nodes: Vec<Nodo>,
     /// The nodes at a place, as places in `nodes`.
     at: BTreeMap<Xy, Vec<usize>>,
-    /// The nodes that only a point object can hold.
+    /// The nodes that only point objects can hold, two each.
     loose: Vec<usize>,
 }
 
@@ -257,7 +267,7 @@ fn nodes(random: &mut Random, counts: &Counts, spread: Spread, courses: &[Vec<Xy
         }
     }
     while ground.nodes.len() < counts.nodo {
-        let may_be_loose = ground.loose.len() < counts.ob_pun;
+        let may_be_loose = 2 * ground.loose.len() + 2 <= counts.ob_pun;
         if may_be_loose && (courses.is_empty() || random.chance(1, 3)) {
             let anywhere = place(random, spread);
             ground.loose.push(ground.nodes.len());
@@ -288,7 +298,7 @@ impl Ground {
         self.at.entry(at).or_default().push(self.nodes.len());
         self.nodes.push(Nodo {
             id_nodo: 0,
-            tipo: node_type(random),
+            tipo: b' ',
             posicion: Posicion::at(at, z),
         });
     }
@@ -296,14 +306,6 @@ impl Ground {
     /// Any of the nodes at a place may begin or end a tramo there.
     fn one_at(&self, random: &mut Random, at: Xy) -> u64 {
         self.nodes[random.pick(&self.at[&at])].id_nodo
-    }
-}
-
-pub(crate) fn node_type(random: &mut Random) -> u8 {
-    match random.below(4) {
-        0 => b' ',
-        1 => visible_byte(random),
-        _ => random.pick(b"ACEIH"),
     }
 }
 
@@ -388,15 +390,15 @@ fn vertices(random: &mut Random, courses: &[Vec<Xy>], line_ids: &[u64]) -> Vec<V
     list
 }
 
-/// Point objects: first those that hold the loose nodes.
+/// Point objects: first those that hold the loose nodes, by twos.
 fn points(random: &mut Random, count: usize, spread: Spread, ground: &Ground) -> Vec<ObPun> {
     let own_ids = ids(random, count);
     own_ids
         .into_iter()
         .enumerate()
         .map(|(place, id_opun)| {
-            let node = if place < ground.loose.len() {
-                Some(ground.loose[place])
+            let node = if place < 2 * ground.loose.len() {
+                Some(ground.loose[place / 2])
             } else if ground.nodes.is_empty() || random.chance(1, 2) {
                 None
             } else {
@@ -423,7 +425,7 @@ fn point(random: &mut Random, id_opun: u64, node: Option<&Nodo>, spread: Spread)
         id_nodo: node.map(|node| node.id_nodo),
         codigo: Vec::new(),
         nombre_i: text(random, 60),
-        orientac: optional(random, 100_000),
+        orientac: orientation(random),
         magnific: optional(random, 1_000),
         // Only X and Y are the node's.
         posicion: Posicion {
@@ -443,8 +445,8 @@ fn texts(random: &mut Random, count: usize, spread: Spread) -> Vec<ObTex> {
             literal: text(random, 60),
             altura: Some(random.below(1_000)),
             anchura: optional(random, 1_000),
-            orientac: optional(random, 100_000),
-            justifi: Some(random.below(10)),
+            orientac: orientation(random),
+            justifi: justification(random),
             posicion: Posicion::at(place(random, spread), height(random)),
         })
         .collect()

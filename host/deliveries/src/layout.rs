@@ -8,6 +8,17 @@ pub enum Form {
     A,
 }
 
+/// What a field may hold when it isn't missing.
+#[derive(Clone, Copy, Debug, PartialEq, Eq)]
+pub enum Domain {
+    /// Anything its form allows.
+    Any,
+    /// One of these bytes; the field has no more.
+    OneOf(&'static [u8]),
+    /// Three digits of degrees up to 359 and two of minutes up to 59.
+    Angle,
+}
+
 #[derive(Clone, Copy, Debug)]
 pub struct Field {
     pub name: &'static str,
@@ -15,15 +26,17 @@ pub struct Field {
     pub width: usize,
     /// The field may not be missing.
     pub must: bool,
-    /// What a one-byte field may hold when it isn't blank. Empty: anything its
-    /// form allows.
-    pub domain: &'static [u8],
+    pub domain: Domain,
 }
 
 impl Field {
     /// A sign stands right before its number.
     pub fn is_sign(&self) -> bool {
-        self.domain == SIGNS && self.name.starts_with("SIGNO")
+        self.name.starts_with("SIGNO")
+    }
+
+    pub fn has_domain(&self) -> bool {
+        self.domain != Domain::Any
     }
 
     pub fn is_code(&self) -> bool {
@@ -48,6 +61,8 @@ pub const RECORD: [usize; 7] = [133, 149, 144, 128, 77, 54, 50];
 
 pub const TYPES: &[u8] = b"PXLT";
 const SIGNS: &[u8] = b"+-";
+const NODE_TYPES: &[u8] = b"ACEIH";
+const JUSTIFICATIONS: &[u8] = b"123456789";
 
 const fn n(name: &'static str, width: usize) -> Field {
     Field {
@@ -55,7 +70,7 @@ const fn n(name: &'static str, width: usize) -> Field {
         form: Form::N,
         width,
         must: false,
-        domain: b"",
+        domain: Domain::Any,
     }
 }
 
@@ -65,12 +80,22 @@ const fn a(name: &'static str, width: usize) -> Field {
         form: Form::A,
         width,
         must: false,
-        domain: b"",
+        domain: Domain::Any,
     }
 }
 
-const fn of(domain: &'static [u8], field: Field) -> Field {
-    Field { domain, ..field }
+const fn of(bytes: &'static [u8], field: Field) -> Field {
+    Field {
+        domain: Domain::OneOf(bytes),
+        ..field
+    }
+}
+
+const fn angle(field: Field) -> Field {
+    Field {
+        domain: Domain::Angle,
+        ..field
+    }
 }
 
 const fn must(field: Field) -> Field {
@@ -101,7 +126,7 @@ const OB_PUN_FIELDS: &[Field] = &[
     n("ID_NODO", 10),
     CODIGO,
     a("NOMBRE_I", 60),
-    n("ORIENTAC", 5),
+    angle(n("ORIENTAC", 5)),
     n("MAGNIFIC", 3),
     must(SIGNO_X),
     POS_X,
@@ -118,8 +143,8 @@ const OB_TEX_FIELDS: &[Field] = &[
     a("LITERAL", 60),
     must(n("ALTURA", 3)),
     n("ANCHURA", 3),
-    n("ORIENTAC", 5),
-    must(n("JUSTIFI", 1)),
+    angle(n("ORIENTAC", 5)),
+    must(of(JUSTIFICATIONS, n("JUSTIFI", 1))),
     must(SIGNO_X),
     POS_X,
     must(SIGNO_Y),
@@ -165,7 +190,7 @@ const VERTICE_FIELDS: &[Field] = &[
 
 const NODO_FIELDS: &[Field] = &[
     must(n("ID_NODO", 10)),
-    a("TIPO", 1),
+    of(NODE_TYPES, a("TIPO", 1)),
     must(SIGNO_X),
     POS_X,
     must(SIGNO_Y),

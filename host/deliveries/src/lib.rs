@@ -11,6 +11,7 @@
 mod damage;
 mod full;
 mod graft;
+mod kinds;
 mod lawful;
 mod layout;
 mod model;
@@ -21,10 +22,11 @@ mod values;
 
 pub use damage::{damage, damaged, Aim, Layer, Outcome, AIMS};
 pub use full::{full, MOST_RECORDS};
+pub use kinds::{Kind, Kinds};
 pub use lawful::{lawful, Size};
 pub use layout::{
-    field_start, fields, Field, Form, CATALOGO, NAMES, NODO, OB_LIN, OB_PUN, OB_TEX, RECORD, TRAMO,
-    VERTICE,
+    field_start, fields, Domain, Field, Form, CATALOGO, NAMES, NODO, OB_LIN, OB_PUN, OB_TEX,
+    RECORD, TRAMO, VERTICE,
 };
 pub use model::{
     write, Catalogo, Files, Model, Nodo, ObLin, ObPun, ObTex, Posicion, Tramo, Vertice,

@@ -101,7 +101,7 @@ pub struct Vertice {
 #[derive(Clone, Debug, PartialEq, Eq)]
 pub struct Nodo {
     pub id_nodo: u64,
-    /// Any byte of the A set but the no-break blank; blank is missing.
+    /// A code of section 5.6.11; blank is missing.
     pub tipo: u8,
     pub posicion: Posicion,
 }
@@ -285,8 +285,16 @@ impl Model {
         self.nodo.iter().any(|node| node.posicion == *position)
     }
 
-    pub(crate) fn is_named_by_point(&self, node: u64) -> bool {
-        self.ob_pun.iter().any(|point| point.id_nodo == Some(node))
+    /// The point objects that name a node, as places in OB_PUN.
+    pub(crate) fn namers(&self, node: u64) -> Vec<usize> {
+        (0..self.ob_pun.len())
+            .filter(|&place| self.ob_pun[place].id_nodo == Some(node))
+            .collect()
+    }
+
+    /// Enough point objects name it where nothing else holds it.
+    pub(crate) fn is_held_by_points(&self, node: u64) -> bool {
+        self.namers(node).len() > 1
     }
 
     /// The vertices that are neither first nor last of their line.

@@ -134,10 +134,10 @@ fn value_reasons(model: &Model) -> BTreeSet<u8> {
                 .map(|node| (node.posicion.xy(), node.posicion.z)),
         ),
     );
-    let mut held: BTreeSet<u64> = BTreeSet::new();
+    let mut namers: BTreeMap<u64, usize> = BTreeMap::new();
     for point in &model.ob_pun {
         if let Some(id) = point.id_nodo {
-            held.insert(id);
+            *namers.entry(id).or_default() += 1;
             tell(40, !nodes.contains_key(&id));
             tell(
                 55,
@@ -147,20 +147,48 @@ fn value_reasons(model: &Model) -> BTreeSet<u8> {
             );
         }
     }
-    held.extend(
-        model
-            .tramo
-            .iter()
-            .flat_map(|tramo| [tramo.id_nodoi, tramo.id_nodof]),
-    );
+    let ends: BTreeSet<u64> = model
+        .tramo
+        .iter()
+        .flat_map(|tramo| [tramo.id_nodoi, tramo.id_nodof])
+        .collect();
     let ground: BTreeSet<_> = model
         .vertice
         .iter()
         .map(|vertex| vertex.posicion.xy())
         .collect();
-    let is_idle =
-        |node: &Nodo| !held.contains(&node.id_nodo) && !ground.contains(&node.posicion.xy());
+    let is_idle = |node: &Nodo| {
+        let twice = namers.get(&node.id_nodo).map_or(false, |&times| times > 1);
+        !ends.contains(&node.id_nodo) && !ground.contains(&node.posicion.xy()) && !twice
+    };
     tell(56, model.nodo.iter().any(is_idle));
+    let (mut first_or_last, mut between) = (BTreeSet::new(), BTreeSet::new());
+    for orders in lines.values() {
+        let last = orders.keys().last();
+        for (order, position) in orders {
+            let is_end = *order == 1 || Some(order) == last;
+            let places = if is_end {
+                &mut first_or_last
+            } else {
+                &mut between
+            };
+            places.insert(position.xy());
+        }
+    }
+    let disagrees = |node: &Nodo| {
+        let xy = node.posicion.xy();
+        let is_end = ends.contains(&node.id_nodo) || first_or_last.contains(&xy);
+        let is_between = between.contains(&xy);
+        match node.tipo {
+            b'A' => is_end || is_between,
+            b'C' => !is_end && !is_between,
+            b'E' => !is_end || is_between,
+            b'I' => is_end || !is_between,
+            b'H' => !is_end || !is_between,
+            _ => false,
+        }
+    };
+    tell(58, model.nodo.iter().any(disagrees));
     let named: BTreeSet<u64> = model.tramo.iter().map(|tramo| tramo.id_olin).collect();
     tell(57, linears.iter().any(|linear| !named.contains(linear)));
     found
@@ -213,7 +241,11 @@ fn record_reasons(file: usize, record: &[u8], found: &mut BTreeSet<u8>) {
         let says = |word: &[u8]| bytes.starts_with(word) && all(&bytes[2..], b' ');
         let missing = blank[place] || field.is_code() && (says(b"NA") || says(b"ND"));
         tell(24, field.must && missing);
-        let outside = !field.domain.is_empty() && !field.domain.contains(&bytes[0]);
+        let outside = match field.domain {
+            Domain::Any => false,
+            Domain::OneOf(inside) => !inside.contains(&bytes[0]),
+            Domain::Angle => bytes > b"35959" || &bytes[3..] > b"59",
+        };
         tell(25, sound && !missing && outside);
         if field.is_sign() {
             tell(24, blank[place] != blank[place + 1]);
@@ -348,6 +380,12 @@ fn nodes_of(model: &Model, wanted: fn(&Model, &Nodo) -> bool) -> bool {
 fn is_end(model: &Model, node: &Nodo) -> bool {
     let mut tramos = model.tramo.iter();
     tramos.any(|tramo| tramo.id_nodoi == node.id_nodo || tramo.id_nodof == node.id_nodo)
+}
+
+fn has_coded(model: &Model, code: u8, kind: Kind) -> bool {
+    let kinds = Kinds::of(model);
+    let mut coded = model.nodo.iter().filter(|node| node.tipo == code);
+    coded.any(|node| kinds.kind(node) == kind)
 }
 
 fn tramo_pairs(model: &Model, wanted: fn(&Tramo, &Tramo) -> bool) -> bool {
@@ -498,13 +536,21 @@ const SIGHTS: &[Sight] = &[
     }),
     ("node held by a middle vertex alone", |model| {
         nodes_of(model, |model, node| {
-            !is_end(model, node) && !model.is_named_by_point(node.id_nodo)
+            !is_end(model, node) && model.namers(node.id_nodo).is_empty()
         })
     }),
-    ("node held by a point alone", |model| {
+    ("node held by two points alone", |model| {
         nodes_of(model, |model, node| {
             !model.has_vertex_at(node.posicion.xy())
         })
+    }),
+    ("node held by three points alone", |model| {
+        nodes_of(model, |model, node| {
+            !model.has_vertex_at(node.posicion.xy()) && model.namers(node.id_nodo).len() == 3
+        })
+    }),
+    ("node named by one point", |model| {
+        nodes_of(model, |model, node| model.namers(node.id_nodo).len() == 1)
     }),
     ("node 0", |model| model.node(0).is_some()),
     ("largest node id", |model| model.node(ID_MOST).is_some()),
@@ -583,8 +629,50 @@ const SIGHTS: &[Sight] = &[
     ("node without TIPO", |model| {
         nodes_of(model, |_, node| node.tipo == b' ')
     }),
-    ("node of an odd TIPO", |model| {
-        nodes_of(model, |_, node| node.tipo >= 0xA0)
+    ("node A", |model| {
+        nodes_of(model, |_, node| node.tipo == b'A')
+    }),
+    ("node E", |model| {
+        nodes_of(model, |_, node| node.tipo == b'E')
+    }),
+    ("node I", |model| {
+        nodes_of(model, |_, node| node.tipo == b'I')
+    }),
+    ("node H", |model| {
+        nodes_of(model, |_, node| node.tipo == b'H')
+    }),
+    ("node C that is an end", |model| {
+        has_coded(model, b'C', Kind::End)
+    }),
+    ("node C that is intermediate", |model| {
+        has_coded(model, b'C', Kind::Intermediate)
+    }),
+    ("node C that is both", |model| {
+        has_coded(model, b'C', Kind::Both)
+    }),
+    ("isolated node without TIPO", |model| {
+        has_coded(model, b' ', Kind::Isolated)
+    }),
+    ("node without TIPO that is both", |model| {
+        has_coded(model, b' ', Kind::Both)
+    }),
+    ("both on one line alone", |model| {
+        model.lines().len() == 1 && has_coded(model, b'H', Kind::Both)
+    }),
+    ("orientation 0", |model| {
+        model.ob_pun.iter().any(|point| point.orientac == Some(0))
+    }),
+    ("largest orientation", |model| {
+        model
+            .ob_tex
+            .iter()
+            .any(|text| text.orientac == Some(35_959))
+    }),
+    ("justification 1", |model| {
+        model.ob_tex.iter().any(|text| text.justifi == Some(1))
+    }),
+    ("justification 9", |model| {
+        model.ob_tex.iter().any(|text| text.justifi == Some(9))
     }),
 ];
 
@@ -771,7 +859,7 @@ fn aims_strike_every_field_they_can() {
     );
     assert_eq!(
         struck_fields(Aim::OutsideDomain),
-        fields_where(|field| !field.domain.is_empty())
+        fields_where(Field::has_domain)
     );
     assert_eq!(
         struck_fields(Aim::BrokenNumber),
@@ -810,7 +898,7 @@ fn the_table_is_in_the_order_of_the_aims() {
     }
     assert_eq!(Aim::MixedTramo as usize + 1, AIMS.len());
     let told = [
-        10, 11, 20, 21, 22, 23, 24, 25, 30, 40, 41, 50, 51, 52, 53, 54, 55, 56, 57,
+        10, 11, 20, 21, 22, 23, 24, 25, 30, 40, 41, 50, 51, 52, 53, 54, 55, 56, 57, 58,
     ];
     for reason in told {
         assert!(AIMS

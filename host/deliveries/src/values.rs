@@ -313,6 +313,24 @@ pub fn optional(random: &mut Random, below: u64) -> Option<u64> {
     }
 }
 
+/// An orientation, often at an edge of degrees or minutes, or missing.
+pub fn orientation(random: &mut Random) -> Option<u64> {
+    let degrees = random.below(360);
+    let minutes = random.below(60);
+    match random.below(8) {
+        0 | 1 => None,
+        2 => Some(random.pick(&[0, 59, 35_900, 35_959])),
+        3 => Some(100 * degrees + random.pick(&[0, 59])),
+        4 => Some(100 * random.pick(&[0, 9, 99, 359]) + minutes),
+        _ => Some(100 * degrees + minutes),
+    }
+}
+
+/// A text's justification, never missing.
+pub fn justification(random: &mut Random) -> Option<u64> {
+    Some(1 + random.below(9))
+}
+
 pub fn coordinate(random: &mut Random, most: i64) -> i64 {
     match random.below(16) {
         0 => 0,

@@ -52,8 +52,9 @@ pub fn broken_deliveries() {
         change(&mut changed);
         row(&write(&changed), name, due, &files);
     }
-    let together = places::delivery(&places::falling_together(n, places::WHOLE));
-    let due = format!("OK 00001 {n:05} 00000 00000 00000 00000 {n:05}");
+    let half = n / 2;
+    let together = places::delivery(&places::falling_together(half, places::WHOLE));
+    let due = format!("OK 00001 {n:05} 00000 00000 00000 00000 {half:05}");
     row(&together, "places that share one number", &due, &files);
     println!();
 }

@@ -148,8 +148,8 @@ fn repeated_keys(n: usize) {
     println!();
 }
 
-/// Nodes at different places that share one number, each with its point object, beside the same files with plain places: what is
-/// still quadratic.
+/// Nodes at different places that share one number, each with its two point objects, beside the same files with plain places: what is
+/// still quadratic. There are half as many nodes as a file may have records.
 fn shared_places(n: usize) {
     let together = places::falling_together(n, places::WHOLE);
     let plain: Vec<(i64, i64)> = (1..=n as i64).map(|x| (x, x)).collect();
@@ -239,7 +239,7 @@ const TABLES: [Table; 8] = [
     ("keys", || repeated_keys(16_384)),
     ("broken", broken::broken_deliveries),
     ("grid", grid::grids),
-    ("places", || shared_places(16_384)),
+    ("places", || shared_places(8_192)),
     ("records", one_record),
     ("thread", thread),
 ];

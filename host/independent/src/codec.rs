@@ -1,7 +1,7 @@
 //! Single records: reading one into values, writing one from values.
 
 use crate::layout::{layout, length, Field, Form, Need};
-use crate::record::{is_text, outside_domain, parse, Cell};
+use crate::record::{is_other_number, is_other_text, is_text, parse, Cell};
 
 /// Why a single-record call gave nothing.
 #[derive(Clone, Copy, Debug, PartialEq, Eq)]
@@ -45,10 +45,8 @@ pub fn read(file: usize, bytes: &[u8], record: usize) -> Result<Vec<Value>, Refu
         (Form::Size, _) => cells
             .coordinate(i + 1)
             .map_or(Value::Missing, Value::Coordinate),
-        (Form::Number, Cell::Number(n)) => Value::Number(n),
-        (Form::Text | Form::Code | Form::Tipo | Form::Sense, Cell::Text(t)) => {
-            Value::Text(t.to_vec())
-        }
+        (_, Cell::Number(n)) => Value::Number(n),
+        (form, Cell::Text(t)) if form.is_lone_text() => Value::Text(t.to_vec()),
         _ => Value::Missing,
     };
     Ok(layout(file).iter().enumerate().map(value).collect())
@@ -87,10 +85,10 @@ static MISSING: Value = Value::Missing;
 fn said<'a>(fields: &[Field], values: &'a [Value], i: usize) -> &'a Value {
     let value = values.get(i).unwrap_or(&MISSING);
     let says_something = match (fields[i].form, value) {
-        (Form::Number, Value::Number(_)) => true,
         (Form::Size, Value::Coordinate(_)) => true,
         (Form::Code, Value::Text(t)) => !matches!(t.as_slice(), b"" | b"NA" | b"ND"),
-        (Form::Text | Form::Tipo | Form::Sense, Value::Text(t)) => !t.is_empty(),
+        (form, Value::Number(_)) => form.is_lone_number(),
+        (form, Value::Text(t)) => form.is_lone_text() && !t.is_empty(),
         _ => false,
     };
     if says_something {
@@ -110,11 +108,12 @@ fn refused(fields: &[Field], values: &[Value], i: usize) -> Option<u8> {
     match said(fields, values, told_of) {
         Value::Missing if form != Form::Size && is_demanded(fields, values, need) => Some(64),
         Value::Number(n) if *n > greatest(width) => Some(62),
+        Value::Number(n) if is_other_number(form, *n) => Some(65),
         Value::Coordinate(c) if form == Form::Size && c.unsigned_abs() > greatest(width) => {
             Some(62)
         }
         Value::Text(t) if t.len() > width || !is_text(t) => Some(63),
-        Value::Text(t) if outside_domain(form, t) => Some(65),
+        Value::Text(t) if is_other_text(form, t) => Some(65),
         _ => None,
     }
 }

@@ -52,6 +52,8 @@ pub(crate) struct Vertex {
 
 pub(crate) struct Node {
     pub id: u64,
+    /// What it is said to be, if anything.
+    pub code: Option<u8>,
     pub x: i64,
     pub y: i64,
     pub z: Option<i64>,
@@ -172,6 +174,7 @@ fn vertex(cells: &Cells) -> Vertex {
 fn node(cells: &Cells) -> Node {
     Node {
         id: cells.id(1),
+        code: cells.text(2).map(|t| t[0]),
         x: cells.place(4),
         y: cells.place(6),
         z: cells.coordinate(8),

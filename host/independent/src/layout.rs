@@ -1,6 +1,6 @@
 //! What the seven files are made of: the table at the head of document 01.
 
-use Form::{Code, Number, Sense, Sign, Size, Text, Tipo};
+use Form::{Code, Justification, NodeType, Number, Orientation, Sense, Sign, Size, Text, Tipo};
 use Need::{Always, Never, WithCentroid};
 
 /// The seven files' names, in their order.
@@ -20,20 +20,38 @@ pub(crate) const MOST_FIELDS: usize = 14;
 /// What a field holds and which rules are read of it.
 #[derive(Clone, Copy, Debug, PartialEq, Eq)]
 pub enum Form {
-    /// A text without a domain: the free words, and NODO's TIPO.
+    /// A text without a domain: the free words.
     Text,
     /// CODIGO, where NA and ND count as missing.
     Code,
     /// The catalogue's TIPO: P, X, L or T.
     Tipo,
+    /// A node's TIPO: A, C, E, I or H.
+    NodeType,
     /// A tramo's sense: + or -.
     Sense,
     /// The sign before a coordinate's number: + or -.
     Sign,
-    /// A number that stands alone.
+    /// A number that stands alone and has no domain.
     Number,
+    /// An angle: three digits of degrees to 359, two of minutes to 59.
+    Orientation,
+    /// A text's justification: 1 to 9.
+    Justification,
     /// The number of a coordinate; its sign is the field before it.
     Size,
+}
+
+impl Form {
+    /// Whether the field holds a number by itself, which no sign belongs to.
+    pub(crate) fn is_lone_number(self) -> bool {
+        matches!(self, Number | Orientation | Justification)
+    }
+
+    /// Whether the field holds a text that is a value by itself, unlike a sign.
+    pub(crate) fn is_lone_text(self) -> bool {
+        matches!(self, Text | Code | Tipo | NodeType | Sense)
+    }
 }
 
 /// When a field may not be missing, besides the rule that a sign and its
@@ -75,7 +93,7 @@ static OB_PUN: [Field; 13] = [
     field("ID_NODO", Number, 10, Never),
     field("CODIGO", Code, 7, Always),
     field("NOMBRE_I", Text, 60, Never),
-    field("ORIENTAC", Number, 5, Never),
+    field("ORIENTAC", Orientation, 5, Never),
     field("MAGNIFIC", Number, 3, Never),
     field("SIGNO_X", Sign, 1, Always),
     field("POS_X", Size, 9, Always),
@@ -92,8 +110,8 @@ static OB_TEX: [Field; 14] = [
     field("LITERAL", Text, 60, Never),
     field("ALTURA", Number, 3, Always),
     field("ANCHURA", Number, 3, Never),
-    field("ORIENTAC", Number, 5, Never),
-    field("JUSTIFI", Number, 1, Always),
+    field("ORIENTAC", Orientation, 5, Never),
+    field("JUSTIFI", Justification, 1, Always),
     field("SIGNO_X", Sign, 1, Always),
     field("POS_X", Size, 9, Always),
     field("SIGNO_Y", Sign, 1, Always),
@@ -139,7 +157,7 @@ static VERTICE: [Field; 8] = [
 
 static NODO: [Field; 8] = [
     field("ID_NODO", Number, 10, Always),
-    field("TIPO", Text, 1, Never),
+    field("TIPO", NodeType, 1, Never),
     field("SIGNO_X", Sign, 1, Always),
     field("POS_X", Size, 9, Always),
     field("SIGNO_Y", Sign, 1, Always),
@@ -252,5 +270,7 @@ mod tests {
             (field_name(5, 8), width(5, 8), form(5, 8)),
             ("SENTIDO", 1, Sense)
         );
+        assert_eq!((form(2, 6), form(3, 7)), (Orientation, Orientation));
+        assert_eq!((form(3, 8), form(7, 2)), (Justification, NodeType));
     }
 }

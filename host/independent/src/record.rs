@@ -126,13 +126,18 @@ fn split<'a>(fields: &[Field], record: &'a [u8]) -> [Cell<'a>; MOST_FIELDS] {
 
 fn take(form: Form, bytes: &[u8]) -> Cell<'_> {
     match form {
-        Form::Number | Form::Size => take_number(bytes),
         Form::Code => match take_text(bytes) {
             Cell::Text(b"NA") | Cell::Text(b"ND") => Cell::Missing,
             cell => cell,
         },
-        Form::Text | Form::Tipo | Form::Sense | Form::Sign => take_text(bytes),
+        _ if is_digits(form) => take_number(bytes),
+        _ => take_text(bytes),
     }
+}
+
+/// Whether an N field is of this form; the others are A fields.
+fn is_digits(form: Form) -> bool {
+    form.is_lone_number() || form == Form::Size
 }
 
 fn take_number(bytes: &[u8]) -> Cell<'_> {
@@ -176,12 +181,23 @@ fn is_visible(end: Option<&u8>) -> bool {
     end.map_or(false, |b| !matches!(b, b' ' | 0xA0))
 }
 
-/// Whether a text is outside the domain of its form, signs apart.
-pub(crate) fn outside_domain(form: Form, text: &[u8]) -> bool {
+/// Whether a text is outside the domain of its form, - before zero apart.
+pub(crate) fn is_other_text(form: Form, text: &[u8]) -> bool {
     match form {
         Form::Tipo => !matches!(text, b"P" | b"X" | b"L" | b"T"),
+        Form::NodeType => !matches!(text, b"A" | b"C" | b"E" | b"I" | b"H"),
         Form::Sense | Form::Sign => !matches!(text, b"+" | b"-"),
-        Form::Text | Form::Code | Form::Number | Form::Size => false,
+        _ => false,
+    }
+}
+
+/// Whether a number is outside the domain of its form (W-203). The last two
+/// digits of an angle are its minutes.
+pub(crate) fn is_other_number(form: Form, number: u64) -> bool {
+    match form {
+        Form::Orientation => number / 100 > 359 || number % 100 > 59,
+        Form::Justification => !(1..=9).contains(&number),
+        _ => false,
     }
 }
 
@@ -189,10 +205,11 @@ pub(crate) fn outside_domain(form: Form, text: &[u8]) -> bool {
 fn broken(fields: &[Field], cells: &[Cell; MOST_FIELDS], i: usize) -> Option<u8> {
     let form = fields[i].form;
     match cells[i] {
-        Cell::Damaged if matches!(form, Form::Number | Form::Size) => Some(22),
+        Cell::Damaged if is_digits(form) => Some(22),
         Cell::Damaged => Some(23),
         Cell::Missing if is_demanded(fields, cells, i) => Some(24),
-        Cell::Text(text) if outside_domain(form, text) => Some(25),
+        Cell::Number(number) if is_other_number(form, number) => Some(25),
+        Cell::Text(text) if is_other_text(form, text) => Some(25),
         Cell::Text(b"-") if form == Form::Sign && matches!(cells[i + 1], Cell::Number(0)) => {
             Some(25)
         }

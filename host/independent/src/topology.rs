@@ -33,7 +33,7 @@ pub(crate) fn check<L: Listener>(
     check_linears(delivery, listener)?;
     check_tramos(delivery, keys, lines, listener)?;
     check_orders(delivery, keys, listener)?;
-    check_nodes(delivery, listener)
+    check_nodes(delivery, lines, listener)
 }
 
 fn check_points<L: Listener>(
@@ -104,20 +104,101 @@ fn check_orders<L: Listener>(
     Ok(())
 }
 
-fn check_nodes<L: Listener>(delivery: &Delivery, listener: &mut L) -> Result<(), L::Stop> {
-    let ends = delivery.tramos.iter().flat_map(|t| [t.start, t.end]);
-    let named = delivery.points.iter().filter_map(|p| p.node);
-    let wanted: HashSet<u64> = ends.chain(named).collect();
-    let vertices: HashSet<(i64, i64)> = delivery.vertices.iter().map(|v| (v.x, v.y)).collect();
+fn check_nodes<L: Listener>(
+    delivery: &Delivery,
+    lines: &Lines,
+    listener: &mut L,
+) -> Result<(), L::Stop> {
+    let ground = Ground::of(delivery, lines);
+    let namers = namers(delivery);
     let mut taken = HashMap::with_capacity(delivery.nodes.len());
     for (i, node) in delivery.nodes.iter().enumerate() {
         if let Some(earlier) = taken.insert((node.x, node.y, node.z), i) {
             listener.hear(broken(54, (7, i, 0), told(earlier)))?;
         }
-        let has_use = wanted.contains(&node.id) || vertices.contains(&(node.x, node.y));
-        listener.ensure(has_use, 56, (7, i, 0))?;
+        let kind = ground.kind(node);
+        let named_twice = namers.get(&node.id).map_or(false, |times| *times > 1);
+        listener.ensure(kind != Kind::Isolated || named_twice, 56, (7, i, 0))?;
+        let agrees = node.code.map_or(true, |code| kind.agrees(code));
+        listener.ensure(agrees, 58, (7, i, 2))?;
     }
     Ok(())
+}
+
+/// How many point objects name a node, by its id.
+fn namers(delivery: &Delivery) -> HashMap<u64, usize> {
+    let mut times = HashMap::new();
+    for id in delivery.points.iter().filter_map(|p| p.node) {
+        *times.entry(id).or_insert(0) += 1;
+    }
+    times
+}
+
+/// What a node is, by request W-203.
+#[derive(Clone, Copy, PartialEq, Eq)]
+enum Kind {
+    Isolated,
+    End,
+    Intermediate,
+    Both,
+}
+
+impl Kind {
+    /// Whether a code of section 5.6.11 may be said of it.
+    fn agrees(self, code: u8) -> bool {
+        match code {
+            b'A' => self == Kind::Isolated,
+            b'C' => self != Kind::Isolated,
+            b'E' => self == Kind::End,
+            b'I' => self == Kind::Intermediate,
+            _ => self == Kind::Both,
+        }
+    }
+}
+
+/// What makes a node an end or an intermediate one.
+struct Ground {
+    /// Nodes that start or end a tramo, by id.
+    named: HashSet<u64>,
+    /// The places of lines' first and last vertices.
+    ends: HashSet<(i64, i64)>,
+    /// The places of the other vertices.
+    middles: HashSet<(i64, i64)>,
+}
+
+impl Ground {
+    fn of(delivery: &Delivery, lines: &Lines) -> Ground {
+        let mut ground = Ground {
+            named: HashSet::new(),
+            ends: HashSet::new(),
+            middles: HashSet::new(),
+        };
+        for tramo in &delivery.tramos {
+            ground.named.extend([tramo.start, tramo.end]);
+        }
+        for (i, vertex) in delivery.vertices.iter().enumerate() {
+            // The first is the one of order 1, not the lowest there is.
+            let is_end = vertex.order == 1 || lines.get(&vertex.line) == Some(&i);
+            let places = if is_end {
+                &mut ground.ends
+            } else {
+                &mut ground.middles
+            };
+            places.insert((vertex.x, vertex.y));
+        }
+        ground
+    }
+
+    fn kind(&self, node: &Node) -> Kind {
+        let place = (node.x, node.y);
+        let is_end = self.named.contains(&node.id) || self.ends.contains(&place);
+        match (is_end, self.middles.contains(&place)) {
+            (false, false) => Kind::Isolated,
+            (true, false) => Kind::End,
+            (false, true) => Kind::Intermediate,
+            (true, true) => Kind::Both,
+        }
+    }
 }
 
 fn node_of<'a>(delivery: &'a Delivery, keys: &Keys, id: u64) -> Option<&'a Node> {

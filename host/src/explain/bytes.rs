@@ -5,7 +5,8 @@ use canopyrail::{Break, Reason};
 
 use super::{likeness, Page};
 use crate::delivery::Delivery;
-use crate::layout::{end_part, field_words, limit, x_field, Part, CATALOGO, OB_LIN, TRAMO};
+use crate::layout::{end_part, field_words, limit, x_field, Part};
+use crate::layout::{CATALOGO, NODO, OB_LIN, TRAMO};
 use crate::picture::{byte_words, grouped, many, shown, NO_BREAK};
 
 pub fn too_long(page: &mut Page, b: &Break) {
@@ -254,7 +255,15 @@ fn outside(file: usize, record: &[u8], field: usize) -> String {
     }
     let may = match (file, names::field(file, field)) {
         (CATALOGO, "TIPO") => "P (point), X (text), L (line) or T (tramo)",
+        (NODO, "TIPO") => {
+            "A (isolated), C (connected), E (end), I (intermediate), H (end and intermediate) or a \
+             blank"
+        }
         (TRAMO, "SENTIDO") => "+, - or a blank",
+        (_, "ORIENTAC") => {
+            "three digits of degrees from 000 to 359 and two of minutes from 00 to 59"
+        }
+        (_, "JUSTIFI") => "1 to 9",
         _ => "+ or -",
     };
     format!("The field holds {}; it may hold {may}.", shown(bytes))

@@ -1,4 +1,4 @@
-//! What is told of lines, nodes and objects (50 to 57).
+//! What is told of lines and what stands on them (50 to 55, 57).
 
 use canopyrail::{Break, Reason};
 
@@ -66,7 +66,7 @@ fn span(low: u64, high: u64) -> String {
 }
 
 /// A record's place, X and Y.
-fn at_words(file: usize, values: &Values) -> String {
+pub fn at_words(file: usize, values: &Values) -> String {
     format!(
         "X {}, Y {}",
         values.words(x_field(file)),
@@ -208,21 +208,6 @@ pub fn point_elsewhere(page: &mut Page, delivery: &Delivery, b: &Break) {
             record,
             &differing(NODO, &node, OB_PUN, &point),
         );
-    }
-}
-
-pub fn idle_node(page: &mut Page, delivery: &Delivery, b: &Break) {
-    if let Some(node) = delivery.values(b.file, b.record) {
-        let id = node.words(1);
-        let text = format!(
-            "Node {id} is at {}. {} does not name it in field 6 ID_NODOI or field 7 ID_NODOF, {} \
-             has no vertex there, and {} does not name it in field 3 ID_NODO.",
-            at_words(NODO, &node),
-            counted(delivery, TRAMO),
-            counted(delivery, VERTICE),
-            counted(delivery, OB_PUN)
-        );
-        page.say("Here", &text);
     }
 }
 

@@ -54,7 +54,7 @@ fn the_tables_agree() {
 /// Document 01's reasons.
 fn numbers() -> Vec<u8> {
     let reasons = (10..=11).chain(20..=25).chain([30, 40, 41]);
-    reasons.chain(50..=57).chain([59]).chain(60..=67).collect()
+    reasons.chain(50..=59).chain(60..=67).collect()
 }
 
 #[test]
@@ -254,6 +254,9 @@ fn refusals_of_writing() {
         tried(CATALOGO, &[text(7), Value::Text(b"S".to_vec())], 133),
         Err((65, 2))
     );
+    let coded = |code: &[u8]| vec![Value::Number(1), Value::Text(code.to_vec())];
+    assert_eq!(tried(NODO, &coded(b"e"), 50), Err((65, 2)));
+    assert_eq!(tried(NODO, &coded(b"E"), 50), Err((64, 3)));
     assert_eq!(tried(NODO, &[Value::Number(1)], 50), Err((64, 3)));
     assert_eq!(
         tried(NODO, &[Value::Number(10_000_000_000)], 50),

@@ -3,7 +3,9 @@
 use canopyrail::Reason;
 use std::fs::File;
 
-use crate::build::{offset, s, Files, CATALOGO, LENGTHS, NODO, OB_LIN, OB_TEX, TRAMO, VERTICE};
+use crate::build::{
+    offset, s, Files, CATALOGO, LENGTHS, NODO, OB_LIN, OB_PUN, OB_TEX, TRAMO, VERTICE,
+};
 use crate::run::{explain, flowing, judge, marked, Room};
 
 /// A delivery with the line it gets, what its page must say, and the bytes that must be marked on
@@ -463,6 +465,45 @@ fn missing_and_outside() {
             marks: &["*"],
         },
         Sample {
+            what: "25, a small letter for a node's type",
+            files: s().set(NODO, 2, 2, "e"),
+            line: "NO 25 7 00002 02",
+            says: &[
+                "field 2 TIPO (the node's type)",
+                "The field holds e; it may hold A (isolated), C (connected), E (end), I \
+                 (intermediate), H (end and intermediate) or a blank.",
+            ],
+            marks: &["e"],
+        },
+        Sample {
+            what: "25, an orientation of 360 degrees",
+            files: s().point("", "000000001", "0000000001").set(OB_PUN, 1, 6, "36000"),
+            line: "NO 25 2 00001 06",
+            says: &[
+                "field 6 ORIENTAC (the orientation)",
+                "The field holds 36000; it may hold three digits of degrees from 000 to 359 and two \
+                 of minutes from 00 to 59.",
+            ],
+            marks: &["36000"],
+        },
+        Sample {
+            what: "25, a justification of 0",
+            files: with_text("0"),
+            line: "NO 25 3 00001 08",
+            says: &[
+                "field 8 JUSTIFI (the justification)",
+                "The field holds 0; it may hold 1 to 9.",
+            ],
+            marks: &["0"],
+        },
+        Sample {
+            what: "a justification of 9",
+            files: with_text("9"),
+            line: "OK 00003 00000 00001 00001 00001 00002 00002",
+            says: &["Accepted"],
+            marks: &[],
+        },
+        Sample {
             what: "25, a sense that isn't one",
             files: s().set(TRAMO, 1, 8, "D"),
             line: "NO 25 5 00001 08",
@@ -473,6 +514,22 @@ fn missing_and_outside() {
             marks: &["D"],
         },
     ]);
+}
+
+/// S with a text of this justification.
+fn with_text(justification: &str) -> Files {
+    let fields = [
+        (1, "0000000001"),
+        (3, "0300000"),
+        (5, "012"),
+        (7, "35959"),
+        (8, justification),
+        (9, "+"),
+        (10, "000000001"),
+        (11, "+"),
+        (12, "0000000001"),
+    ];
+    s().code("0300000", "X").with(OB_TEX, &fields)
 }
 
 #[test]
@@ -719,9 +776,22 @@ fn lines_and_nodes() {
             line: "NO 56 7 00003 00",
             says: &[
                 "Node 3 is at X +0, Y +0. TRAMO (1 record) does not name it",
-                "VERTICE (2 records) has no vertex there",
+                "VERTICE (2 records) has no vertex there, and OB_PUN (no such file) names it never \
+                 in field 3 ID_NODO, where it takes two point objects.",
             ],
             marks: &["+|000000000", "+|0000000000"],
+        },
+        Sample {
+            what: "56, one point object",
+            files: s()
+                .node("0000000003", "000000007", "0000000008")
+                .point("0000000003", "000000007", "0000000008"),
+            line: "NO 56 7 00003 00",
+            says: &[
+                "OB_PUN (1 record) names it once in field 3 ID_NODO, where it takes two",
+                "The one that does is OB_PUN record 1:",
+            ],
+            marks: &["+|000000007", "+|0000000008", "0000000003"],
         },
         Sample {
             what: "57",
@@ -729,6 +799,117 @@ fn lines_and_nodes() {
             line: "NO 57 4 00002 00",
             says: &["TRAMO (1 record) does not name object 5 in field 2 ID_OLIN."],
             marks: &["0000000005"],
+        },
+    ]);
+}
+
+/// S with a second line from the middle of its first one, and nodes of every kind: 1 and 2 are ends,
+/// 3 is both, 4 is an end that no tramo names, 5 is intermediate, 6 is isolated.
+fn every_kind() -> Files {
+    let tramo = [
+        (1, "0000000002"),
+        (2, "0000000001"),
+        (5, "0100001"),
+        (6, "0000000003"),
+        (7, "0000000002"),
+    ];
+    s().set(VERTICE, 2, 2, "00004")
+        .vertex("0000000001", "00002", "000000110", "0000000200")
+        .vertex("0000000001", "00003", "000000120", "0000000200")
+        .with(TRAMO, &tramo)
+        .vertex("0000000002", "00001", "000000120", "0000000200")
+        .vertex("0000000002", "00002", "000000140", "0000000200")
+        .node("0000000003", "000000120", "0000000200")
+        .node("0000000004", "000000100", "0000000200")
+        .set(NODO, 4, 7, "+")
+        .set(NODO, 4, 8, "00000009")
+        .node("0000000005", "000000110", "0000000200")
+        .node("0000000006", "000000007", "0000000008")
+        .point("0000000006", "000000007", "0000000008")
+        .with(
+            OB_PUN,
+            &[
+                (1, "0000000002"),
+                (3, "0000000006"),
+                (4, "0200000"),
+                (8, "+"),
+                (9, "000000007"),
+                (10, "+"),
+                (11, "0000000008"),
+            ],
+        )
+}
+
+#[test]
+fn codes_that_disagree() {
+    check(&[
+        Sample {
+            what: "nodes of every kind without codes",
+            files: every_kind(),
+            line: "OK 00003 00002 00000 00001 00002 00006 00006",
+            says: &["Accepted"],
+            marks: &[],
+        },
+        Sample {
+            what: "58, E for a node that is both",
+            files: every_kind().set(NODO, 3, 2, "E"),
+            line: "NO 58 7 00003 02",
+            says: &[
+                "Where NODO record 3, field 2 TIPO (the node's type)",
+                "Node 3 is at X +120, Y +200. Its TIPO is E (end), and it is both an end and \
+                 intermediate: H fits, or C, or a blank.",
+                "It is an end, since it starts tramo 2, which is TRAMO record 2:",
+                "It is intermediate, since line 1 has a vertex there that is neither its first nor \
+                 its last, of order 3, VERTICE record 4:",
+            ],
+            marks: &["E", "0000000003", "+|000000120", "+|0000000200"],
+        },
+        Sample {
+            what: "58, I for an end",
+            files: every_kind().set(NODO, 2, 2, "I"),
+            line: "NO 58 7 00002 02",
+            says: &[
+                "Its TIPO is I (intermediate), and it is an end and not intermediate: E fits, or C, \
+                 or a blank.",
+                "It is an end, since it ends tramo 1, which is TRAMO record 1:",
+                "It is not intermediate: VERTICE (6 records) has no vertex there that is neither \
+                 its line's first nor its last.",
+            ],
+            marks: &["I", "0000000002"],
+        },
+        Sample {
+            what: "58, A for an end that no tramo names",
+            files: every_kind().set(NODO, 4, 2, "A"),
+            line: "NO 58 7 00004 02",
+            says: &[
+                "Its TIPO is A (isolated), and it is an end and not intermediate",
+                "It is an end, since line 1 has its first vertex there, VERTICE record 1:",
+            ],
+            marks: &["A", "+|000000100", "+|0000000200"],
+        },
+        Sample {
+            what: "58, H for an intermediate node",
+            files: every_kind().set(NODO, 5, 2, "H"),
+            line: "NO 58 7 00005 02",
+            says: &[
+                "Its TIPO is H (end and intermediate), and it is intermediate and no end: I fits, \
+                 or C, or a blank.",
+                "It is no end: TRAMO (2 records) does not name it in field 6 ID_NODOI or field 7 \
+                 ID_NODOF, and VERTICE (6 records) has no line's first or last vertex there.",
+                "of order 2, VERTICE record 3:",
+            ],
+            marks: &["H", "+|000000110", "+|0000000200"],
+        },
+        Sample {
+            what: "58, C for an isolated node",
+            files: every_kind().set(NODO, 6, 2, "C"),
+            line: "NO 58 7 00006 02",
+            says: &[
+                "Its TIPO is C (connected), and it is isolated: A fits, or a blank.",
+                "It is no end",
+                "It is not intermediate",
+            ],
+            marks: &["C"],
         },
     ]);
 }
@@ -744,14 +925,18 @@ fn marks_stand_below_their_field() {
     );
     assert_eq!(lines[4], "                   ^^^^^^^^^");
     // A byte before the field that takes four columns shifts the marks with it.
-    let room = Room::holding(&s().poke(NODO, 1, 11, b"\xE9").set(NODO, 1, 4, "       11"));
+    let code = offset(TRAMO, 5);
+    let room = Room::holding(
+        &s().poke(TRAMO, 1, code, b"\xE9")
+            .set(TRAMO, 1, 6, "         1"),
+    );
     let page = explain(&room.path).out;
     let lines: Vec<&str> = page.lines().collect();
     assert_eq!(
         lines[3],
-        "    0000000001|\\xE9|+|       11|+|0000000200| |        \\x0D\\x0A"
+        "    0000000001|0000000001|          |          |\\xE9100001|         1|0000000002| \\x0D\\x0A"
     );
-    assert_eq!(lines[4], "                      ^^^^^^^^^");
+    assert_eq!(lines[4], format!("{}^^^^^^^^^^", " ".repeat(59)));
 }
 
 #[test]

@@ -62,17 +62,23 @@ pub fn points(ids: &[u64]) -> [Vec<u8>; FILES] {
     files
 }
 
-/// A point object on each node, and nothing else.
+/// Two point objects on each node, as one that stands alone takes, and nothing else.
 pub fn delivery(places: &[(i64, i64)]) -> [Vec<u8>; FILES] {
     let mut files: [Vec<u8>; FILES] = Default::default();
     files[0] = catalogue();
     for (place, (x, y)) in places.iter().enumerate() {
         let id = place as u64 + 1;
-        let mut named = point(id, *x, *y);
-        named[2] = Value::Number(id);
-        files[1].extend(record(2, &named));
+        for own in [2 * id - 1, 2 * id] {
+            let mut named = point(own, *x, *y);
+            named[2] = Value::Number(id);
+            files[1].extend(record(2, &named));
+        }
         let mut node = vec![Value::Missing; 8];
         node[0] = Value::Number(id);
+        // every second one says what it is
+        if id % 2 == 0 {
+            node[1] = Value::Text(b"A".to_vec());
+        }
         node[3] = Value::Coordinate(*x);
         node[5] = Value::Coordinate(*y);
         files[6].extend(record(7, &node));

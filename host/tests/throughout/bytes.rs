@@ -50,11 +50,10 @@ pub const ILL_FORMED: [Case<Files>; 10] = [
         each_field(files, |field| field.must, |field| field.fill(b' '));
     }),
     ("25, all that have a domain", "NO 25 1 00001 02", |files| {
-        each_field(
-            files,
-            |field| !field.domain.is_empty(),
-            |field| spoil(field, b'?'),
-        );
+        let text = |field: &Field| field.has_domain() && field.form == Form::A;
+        let number = |field: &Field| field.has_domain() && field.form == Form::N;
+        each_field(files, text, |field| spoil(field, b'?'));
+        each_field(files, number, outgrow);
     }),
     (
         "20 to 24, all bytes are zero",
@@ -88,5 +87,13 @@ fn each_field(files: &mut Files, wanted: fn(&Field) -> bool, change: fn(&mut [u8
 fn spoil(field: &mut [u8], byte: u8) {
     if field.iter().any(|each| *each != b' ') {
         field[0] = byte;
+    }
+}
+
+/// An orientation past all degrees, a justification of 0. A number that is blank stays so.
+fn outgrow(field: &mut [u8]) {
+    match field {
+        [digit] => *digit = b'0',
+        _ => spoil(field, b'9'),
     }
 }

@@ -14,7 +14,7 @@ use deliveries::{write, Files, Model};
 pub type Case<T = Model> = (&'static str, &'static str, fn(&mut T));
 
 /// Several rules at once, as far as one allows another.
-const AT_ONCE: [Case; 3] = [
+const AT_ONCE: [Case; 4] = [
     ("30, one key in each file", "NO 30 1 00002 01", |model| {
         in_turn(model, &REPEATED, &["30"]);
     }),
@@ -23,6 +23,9 @@ const AT_ONCE: [Case; 3] = [
     }),
     ("50, 53, 55 and 57 as these", "NO 55 2 00001 03", |model| {
         in_turn(model, &ASTRAY, &["50", "53", "55", "57"]);
+    }),
+    ("56 and 58 at the same nodes", "NO 56 7 00001 00", |model| {
+        in_turn(model, &ASTRAY, &["56", "58"]);
     }),
 ];
 

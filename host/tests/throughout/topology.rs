@@ -1,12 +1,13 @@
-//! Deliveries in which every record of a file breaks one rule of 50 to 57, or as many records as the rule allows, and one with a single
-//! twin. Each is made of a lawful one, and nothing else is broken.
+//! Deliveries in which every record of a file breaks one rule of 50 to 58, or as many records as the rule allows, and one with a single
+//! twin. Each is made of a lawful one, and nothing else is broken: where nodes become what they weren't, they have no codes.
 
 use super::Case;
-use deliveries::{Model, Nodo, Posicion, Random};
+use deliveries::{Kind, Kinds, Model, Nodo, Posicion, Random};
 use std::collections::{BTreeMap, BTreeSet};
 
-pub const ASTRAY: [Case; 10] = [
+pub const ASTRAY: [Case; 12] = [
     ("50, each second order", "NO 50 6 00001 02", |model| {
+        blank_codes(model);
         for vertex in &mut model.vertice {
             vertex.no_orden *= 2;
         }
@@ -17,18 +18,21 @@ pub const ASTRAY: [Case; 10] = [
         single_vertices,
     ),
     ("52, all start elsewhere", "NO 52 5 00001 06", |model| {
+        blank_codes(model);
         let elsewhere = elsewhere(model);
         for tramo in &mut model.tramo {
             tramo.id_nodoi = elsewhere[&tramo.id_nodoi];
         }
     }),
     ("53, all end elsewhere", "NO 53 5 00001 07", |model| {
+        blank_codes(model);
         let elsewhere = elsewhere(model);
         for tramo in &mut model.tramo {
             tramo.id_nodof = elsewhere[&tramo.id_nodof];
         }
     }),
     ("54, all at one place", "NO 54 7 00002 00", |model| {
+        blank_codes(model);
         let here = model.nodo[0].posicion;
         for point in &mut model.ob_pun {
             point.posicion = here;
@@ -62,10 +66,49 @@ pub const ASTRAY: [Case; 10] = [
             }
         },
     ),
+    ("58, all codes disagree", "NO 58 7 00001 02", |model| {
+        recode(model, |kind| match kind {
+            Kind::Isolated => b'C',
+            Kind::End => b'H',
+            Kind::Intermediate => b'E',
+            Kind::Both => b'I',
+        });
+    }),
+    (
+        "58, isolated where they aren't",
+        "NO 58 7 00001 02",
+        |model| {
+            recode(
+                model,
+                |kind| {
+                    if kind == Kind::Isolated {
+                        b'E'
+                    } else {
+                        b'A'
+                    }
+                },
+            );
+        },
+    ),
 ];
+
+/// Each node's code by what it is.
+fn recode(model: &mut Model, code: fn(Kind) -> u8) {
+    let kinds = Kinds::of(model);
+    for node in &mut model.nodo {
+        node.tipo = code(kinds.kind(node));
+    }
+}
+
+fn blank_codes(model: &mut Model) {
+    for node in &mut model.nodo {
+        node.tipo = b' ';
+    }
+}
 
 /// Each tramo has a line of its own with a single vertex, at the node where it both begins and ends.
 fn single_vertices(model: &mut Model) {
+    blank_codes(model);
     for (place, tramo) in model.tramo.iter_mut().enumerate() {
         let node = &model.nodo[place];
         tramo.id_linea = None;
@@ -92,6 +135,7 @@ fn elsewhere(model: &Model) -> BTreeMap<u64, u64> {
 
 /// The second half of the nodes stand where the first half do, one by one. Lines of two vertices go from each place to the next.
 fn places_twice(model: &mut Model) {
+    blank_codes(model);
     let half = model.nodo.len() / 2;
     for place in 0..half {
         model.nodo[half + place].posicion = model.nodo[place].posicion;
@@ -115,6 +159,7 @@ fn places_twice(model: &mut Model) {
 
 /// A node that no tramo names goes to the end of its file and to the place of one that a tramo names, with the point objects on it.
 fn last_is_twin(model: &mut Model) {
+    blank_codes(model);
     let named: BTreeSet<u64> = model
         .tramo
         .iter()
@@ -159,6 +204,7 @@ fn beside(x: Option<i64>) -> Option<i64> {
 
 /// All tramos begin and end at the last node. No other node has a vertex at its place or a point object on it.
 fn idle_nodes(model: &mut Model) {
+    blank_codes(model);
     let places: BTreeSet<_> = model.nodo.iter().map(|node| node.posicion.xy()).collect();
     let held = &model.nodo[model.nodo.len() - 1];
     let mut highest: BTreeMap<u64, u64> = BTreeMap::new();

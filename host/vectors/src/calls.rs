@@ -1,7 +1,7 @@
 //! What crates/writes should print: the writing call's cases of document 01,
-//! "Single-record calls add", with those of W-202, and three of the reading
-//! call's, answered by the independent codec. The program states the same cases
-//! in the same order.
+//! "Single-record calls add", with those of W-202 and W-203, and three of the
+//! reading call's, answered by the independent codec. The program states the
+//! same cases in the same order.
 
 use independent::{read, write, Refusal, Value};
 
@@ -90,6 +90,9 @@ fn nodes() -> Vec<Case> {
         case("node nothing given", 7, none()),
         case("node TIPO A0", 7, text(plain(), 2, b"\xA0")),
         case("node TIPO A1", 7, text(plain(), 2, b"\xA1")),
+        show("node TIPO H", 7, text(plain(), 2, b"H")),
+        case("node TIPO h", 7, text(plain(), 2, b"h")),
+        case("node TIPO P", 7, text(plain(), 2, b"P")),
     ]
 }
 
@@ -202,16 +205,30 @@ fn vertices() -> Vec<Case> {
 fn texts() -> Vec<Case> {
     let values = text(text(number(none(), 1, 1), 3, b"0100002"), 4, b"a");
     let values = coordinate(coordinate(number(values, 8, 3), 10, 100), 12, 200);
+    let whole = || number(values.clone(), 5, 12);
     vec![
         case("text height missing", 3, values.clone()),
-        show("text", 3, number(values, 5, 12)),
+        show("text", 3, whole()),
+        case("text justification 0", 3, number(whole(), 8, 0)),
+        show("text justification 9", 3, number(whole(), 8, 9)),
+        case("text justification 10", 3, number(whole(), 8, 10)),
+        case("text orientation 36000", 3, number(whole(), 7, 36_000)),
+        show("text orientation 35959", 3, number(whole(), 7, 35_959)),
     ]
 }
 
 fn points() -> Vec<Case> {
     let values = text(text(number(none(), 1, 1), 4, b"0100003"), 5, b"a");
     let values = coordinate(coordinate(number(values, 3, 2), 9, 100), 11, 200);
-    vec![show("point", 2, values)]
+    let turned = |angle| number(values.clone(), 6, angle);
+    vec![
+        show("point", 2, values.clone()),
+        show("point orientation 0", 2, turned(0)),
+        show("point orientation 59", 2, turned(59)),
+        case("point orientation 60", 2, turned(60)),
+        case("point orientation 35960", 2, turned(35_960)),
+        case("point orientation 100000", 2, turned(100_000)),
+    ]
 }
 
 fn refusal(Refusal { reason, field }: Refusal) -> Vec<u8> {

@@ -18,7 +18,7 @@ pub fn seeded() -> Vec<Files> {
     for (place, &aim) in (1..).zip(&AIMS) {
         let many = match aim.outcome() {
             _ if aim.is_big() => 0,
-            Outcome::Broken(_) => 3,
+            Outcome::Broken(_) => 2,
             Outcome::Lawful | Outcome::Open => 1,
         };
         all.extend(drawn(1_000 * place, many, MOST_AIMED, |random| {

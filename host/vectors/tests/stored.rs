@@ -80,7 +80,7 @@ fn rows(counts: &Counts) -> String {
 #[test]
 fn the_independent_checker_counts_what_was_stated_by_hand() {
     let of_name: BTreeMap<_, _> = stated().into_iter().map(|s| (s.name, s.files)).collect();
-    let grids: [(&str, &Counts); 10] = [
+    let grids: [(&str, &Counts); 18] = [
         ("rich", &[]),
         ("r11-lowest-of-two-files", &[(2, 1, 1), (4, 1, 1)]),
         ("r20-lowest-file-first", &[(2, 2, 1), (3, 2, 1)]),
@@ -97,6 +97,20 @@ fn the_independent_checker_counts_what_was_stated_by_hand() {
         ("case-08", &[(7, 3, 1)]),
         // 54 and 56 at one node
         ("r54-before-56-at-one-node", &[(7, 5, 2)]),
+        (
+            "r57-before-52-53-54-56-58",
+            &[(4, 5, 1), (5, 5, 2), (7, 5, 3)],
+        ),
+        // its code agrees with what it is
+        ("r56-a-for-a-node-of-one-point", &[(7, 5, 1)]),
+        ("r56-before-58-at-one-node", &[(7, 5, 2)]),
+        ("r58-all-codes-exchanged", &[(7, 5, 5)]),
+        ("r58-before-56-of-a-later-node", &[(7, 5, 2)]),
+        ("r53-end-by-its-id-alone", &[(5, 5, 1)]),
+        // 52, 50 and 51, and 58 at node 1
+        ("r52-counted-from-0", &[(5, 5, 1), (6, 5, 2), (7, 5, 1)]),
+        // nodes 3 and 4
+        ("ejemplo-10-5-nodos", &[(7, 5, 2)]),
     ];
     for (name, counts) in grids {
         assert_eq!(vectors::grid(&of_name[name]), rows(counts), "{name}");
@@ -120,7 +134,7 @@ fn every_reason_comes_up_and_all_fits_the_programs_room() {
     let told = |start: &str| lines.iter().filter(|line| line.starts_with(start)).count();
     // 59 can't come first: the reference to a line without a vertex is 40
     for reason in [
-        10, 11, 20, 21, 22, 23, 24, 25, 30, 40, 41, 50, 51, 52, 53, 54, 55, 56, 57,
+        10, 11, 20, 21, 22, 23, 24, 25, 30, 40, 41, 50, 51, 52, 53, 54, 55, 56, 57, 58,
     ] {
         assert!(
             told(&format!("NO {reason}")) > 0,

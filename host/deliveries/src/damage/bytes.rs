@@ -3,7 +3,7 @@
 use std::ops::Range;
 
 use super::{strike, ByteStep};
-use crate::layout::{field_start, fields, Field, Form, OB_LIN, RECORD};
+use crate::layout::{field_start, fields, Domain, Field, Form, OB_LIN, RECORD};
 use crate::model::Files;
 use crate::random::Random;
 use crate::values::NO_BREAK;
@@ -394,17 +394,40 @@ fn centroids(files: &Files, wanted: fn(&Pair, &Files) -> bool) -> Vec<Vec<Pair>>
 // Reason 25.
 
 pub const OUTSIDE_DOMAIN: &[ByteStep] = &[|random, files| {
-    strike(
-        spot(random, files, |field| !field.domain.is_empty()),
-        |spot| {
-            // C and S are types of MIGRA that the base doesn't take. A0 would be
-            // damage, and no value.
-            let mut bytes = b"CSplxt*0~|._\xA1\xB1\xD7PXLT+-".to_vec();
-            bytes.retain(|byte| !spot.field.domain.contains(byte));
-            spot.fill(files, random.pick(&bytes));
-        },
-    )
+    strike(spot(random, files, Field::has_domain), |spot| {
+        let outside = outside(random, spot.field);
+        spot.bytes(files).copy_from_slice(&outside);
+    })
 }];
+
+/// Something that keeps the field's form and isn't in its domain.
+fn outside(random: &mut Random, field: &Field) -> Vec<u8> {
+    let inside = match field.domain {
+        Domain::Any => panic!("{} has no domain", field.name),
+        Domain::Angle => return outside_angle(random),
+        Domain::OneOf(bytes) => bytes,
+    };
+    // C and S are types of MIGRA that the base doesn't take, small letters
+    // are no types at all. A0 would be damage, and no value.
+    let mut bytes = match field.form {
+        Form::N => b"0".to_vec(),
+        Form::A => b"CSplxtaceih*0~|._\xA1\xB1\xD7PXLTAEIH+-".to_vec(),
+    };
+    bytes.retain(|byte| !inside.contains(byte));
+    vec![random.pick(&bytes)]
+}
+
+/// Degrees past 359 or minutes past 59.
+fn outside_angle(random: &mut Random) -> Vec<u8> {
+    let (degrees, minutes) = (random.below(360), random.below(60));
+    let angle = match random.below(5) {
+        0 => random.pick(&[60, 36_000, 35_960, 36_060, 99_999, 35_999]),
+        1 | 2 => 100 * (360 + random.below(640)) + minutes,
+        3 => 100 * degrees + 60 + random.below(40),
+        _ => 100 * (360 + random.below(640)) + 60 + random.below(40),
+    };
+    format!("{angle:05}").into_bytes()
+}
 
 pub const MINUS_ZERO: &[ByteStep] = &[|random, files| {
     strike(pair(random, files, |_, _| true), |pair| {
@@ -579,8 +602,12 @@ pub const MIXED_RECORD: &[ByteStep] = &[|random, files| {
 fn redraw(random: &mut Random, files: &mut Files, spot: &Spot) {
     let width = spot.field.width;
     let contents: &[&[u8]] = match spot.field.form {
-        Form::N => &[b"0", b"9", b" ", b"0 ", b" 0", b"0x", b"-1"],
-        Form::A if width == 1 => &[b"+", b"-", b" ", b"*", b"P", b"\x7F", b"\xA0"],
+        Form::N => &[
+            b"0", b"9", b" ", b"0 ", b" 0", b"0x", b"-1", b"35959", b"00060",
+        ],
+        Form::A if width == 1 => &[
+            b"+", b"-", b" ", b"*", b"P", b"A", b"E", b"e", b"\x7F", b"\xA0",
+        ],
         Form::A => &[
             b"NA ", b"ND ", b" ", b" x ", b"na ", b"x\x80", b"|", b"0", b"\xA0x ", b"x\xA0 ",
             b"x\xA0x ", b"NA\xA0 ",

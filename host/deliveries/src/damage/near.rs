@@ -5,13 +5,14 @@ use super::{places_where, strike, ValueStep};
 use crate::graft::{
     codes, free_place, line_ids, linear_ids, node_ids, point_ids, slip_in, text_ids, tramo_ids,
 };
-use crate::lawful::{node_type, shuffle_files};
+use crate::kinds::{lawful_code, mend_codes, Kinds};
+use crate::lawful::shuffle_files;
 use crate::layout::TYPES;
 use crate::model::{Catalogo, Model, Nodo, ObPun, Posicion, Tramo, Vertice};
 use crate::random::Random;
 use crate::values::{
-    fresh_code, fresh_id, height, optional, text, tidy, visible_byte, NO_BREAK, X_MOST, Y_MOST,
-    Z_MOST,
+    fresh_code, fresh_id, height, optional, orientation, text, tidy, visible_byte, NO_BREAK,
+    X_MOST, Y_MOST, Z_MOST,
 };
 
 // Z counts for nothing but the difference of nodes.
@@ -62,11 +63,11 @@ pub const NODE_ABOVE: &[ValueStep] = &[|random, model| {
     strike(random.one_of(model.nodo.clone()), |below| {
         let id = add_node_above(random, model, below.posicion);
         if !model.has_vertex_at(below.posicion.xy()) {
-            // Only point objects hold the lower one, so one holds the upper.
+            // Only point objects hold the lower one, so two hold the upper.
             let mut holders = model.ob_pun.clone();
             holders.retain(|point| point.id_nodo == Some(below.id_nodo));
             strike(random.one_of(holders), |point| {
-                add_point_like(random, model, point, id, below.posicion);
+                hold_by_points(random, model, &point, id, below.posicion);
             });
         }
     })
@@ -102,36 +103,40 @@ pub const NODE_AT_MIDDLE: &[ValueStep] = &[|random, model| {
 
 fn add_node_above(random: &mut Random, model: &mut Model, at: Posicion) -> u64 {
     let id_nodo = fresh_id(random, &node_ids(model));
-    let node = Nodo {
+    let mut node = Nodo {
         id_nodo,
-        tipo: node_type(random),
+        tipo: b' ',
         posicion: Posicion {
             z: free_height(random, model, at),
             ..at
         },
     };
+    node.tipo = lawful_code(random, Kinds::of(model).kind(&node));
     slip_in(random, &mut model.nodo, node);
     id_nodo
 }
 
-fn add_point_like(random: &mut Random, model: &mut Model, like: ObPun, node: u64, at: Posicion) {
-    let point = ObPun {
-        id_opun: fresh_id(random, &point_ids(model)),
-        id_nodo: Some(node),
-        posicion: Posicion {
-            z: height(random),
-            ..at
-        },
-        ..like
-    };
-    slip_in(random, &mut model.ob_pun, point);
+/// Two further point objects that name the node; they may stand at one place.
+fn hold_by_points(random: &mut Random, model: &mut Model, like: &ObPun, node: u64, at: Posicion) {
+    for _ in 0..2 {
+        let point = ObPun {
+            id_opun: fresh_id(random, &point_ids(model)),
+            id_nodo: Some(node),
+            posicion: Posicion {
+                z: height(random),
+                ..at
+            },
+            ..like.clone()
+        };
+        slip_in(random, &mut model.ob_pun, point);
+    }
 }
 
-pub const NODE_HELD_BY_POINT: &[ValueStep] = &[|random, model| {
+pub const NODE_HELD_BY_POINTS: &[ValueStep] = &[|random, model| {
     strike(random.one_of(model.ob_pun.clone()), |like| {
         let at = Posicion::at(free_place(random, model), None);
         let id = add_node_above(random, model, at);
-        add_point_like(random, model, like, id, at);
+        hold_by_points(random, model, &like, id, at);
     })
 }];
 
@@ -139,8 +144,9 @@ pub const POINT_LETS_GO: &[ValueStep] = &[|random, model| {
     let mut points = points_on_nodes(model);
     points.retain(|&(point, node)| {
         let node = &model.nodo[node];
-        let others = places_where(&model.ob_pun, |other| other.id_nodo == Some(node.id_nodo));
-        model.has_vertex_at(node.posicion.xy()) || others.iter().any(|&other| other != point)
+        let mut others = model.namers(node.id_nodo);
+        others.retain(|&other| other != point);
+        model.has_vertex_at(node.posicion.xy()) || others.len() > 1
     });
     strike(random.one_of(points), |(point, _)| {
         model.ob_pun[point].id_nodo = None;
@@ -192,6 +198,7 @@ pub const VERTEX_REMOVED: &[ValueStep] = &[|random, model| {
                 vertex.no_orden -= 1;
             }
         }
+        mend_codes(random, model);
     })
 }];
 
@@ -200,7 +207,7 @@ fn is_dispensable(model: &Model, vertex: usize) -> bool {
     let xy = model.vertice[vertex].posicion.xy();
     let there = places_where(&model.vertice, |other| other.posicion.xy() == xy);
     let mut nodes = model.nodo.iter().filter(|node| node.posicion.xy() == xy);
-    there.len() > 1 || nodes.all(|node| model.is_named_by_point(node.id_nodo))
+    there.len() > 1 || nodes.all(|node| model.is_held_by_points(node.id_nodo))
 }
 
 pub const VERTEX_ADDED: &[ValueStep] = &[|random, model| {
@@ -228,6 +235,7 @@ pub const VERTEX_ADDED: &[ValueStep] = &[|random, model| {
             ..before
         };
         slip_in(random, &mut model.vertice, vertex);
+        mend_codes(random, model);
     })
 }];
 
@@ -386,14 +394,17 @@ pub const UNUSED_CODE: &[ValueStep] = &[|random, model| {
     true
 }];
 
-// Fields that may hold anything.
+// Fields that may hold one of several things.
 
+/// Another code that agrees with what the node is, a blank among them.
 pub const NODE_TYPE: &[ValueStep] = &[|random, model| {
+    let kinds = Kinds::of(model);
     let nodes = (0..model.nodo.len()).collect();
-    strike(random.one_of(nodes), |node: usize| {
-        let before = model.nodo[node].tipo;
-        while model.nodo[node].tipo == before {
-            model.nodo[node].tipo = node_type(random);
+    strike(random.one_of(nodes), |place: usize| {
+        let node = &mut model.nodo[place];
+        let before = node.tipo;
+        while node.tipo == before {
+            node.tipo = lawful_code(random, kinds.kind(node));
         }
     })
 }];
@@ -402,7 +413,7 @@ pub const OPTIONAL_FIELDS: &[ValueStep] = &[
     |random, model| {
         let points = (0..model.ob_pun.len()).collect();
         strike(random.one_of(points), |point: usize| {
-            model.ob_pun[point].orientac = optional(random, 100_000);
+            model.ob_pun[point].orientac = orientation(random);
             model.ob_pun[point].magnific = optional(random, 1_000);
         })
     },
@@ -410,7 +421,13 @@ pub const OPTIONAL_FIELDS: &[ValueStep] = &[
         let texts = (0..model.ob_tex.len()).collect();
         strike(random.one_of(texts), |text: usize| {
             model.ob_tex[text].anchura = optional(random, 1_000);
-            model.ob_tex[text].orientac = optional(random, 100_000);
+            model.ob_tex[text].orientac = orientation(random);
+        })
+    },
+    |random, model| {
+        let texts = (0..model.ob_tex.len()).collect();
+        strike(random.one_of(texts), |text: usize| {
+            model.ob_tex[text].justifi = random.pick(&[Some(1), Some(9)]);
         })
     },
     // A centroid has X and Y, with or without Z, or nothing.
@@ -449,12 +466,6 @@ pub const BAR_IN_TEXT: &[ValueStep] = &[
     |random, model| {
         strike(random.one_of(free_texts(model)), |text| {
             *text = vec![b'|'; 60]
-        })
-    },
-    |random, model| {
-        let nodes = (0..model.nodo.len()).collect();
-        strike(random.one_of(nodes), |node: usize| {
-            model.nodo[node].tipo = b'|';
         })
     },
     code_with_bar,
@@ -527,12 +538,6 @@ pub const NO_BREAK_WITHIN: &[ValueStep] = &[
         let next: [&[u8]; 4] = [b"\xA1", b"\xA1x", b"x\xA1", b"\xA1\xA0\xA1"];
         strike(random.one_of(free_texts(model)), |text| {
             *text = random.pick(&next).to_vec();
-        })
-    },
-    |random, model| {
-        let nodes = (0..model.nodo.len()).collect();
-        strike(random.one_of(nodes), |node: usize| {
-            model.nodo[node].tipo = NO_BREAK + 1;
         })
     },
 ];

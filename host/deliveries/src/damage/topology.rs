@@ -1,10 +1,11 @@
-//! Damage to orders, ends, nodes and objects: reasons 50 to 57.
+//! Damage to orders, ends, nodes and objects: reasons 50 to 58.
 
 use std::collections::BTreeSet;
 
 use super::{places_where, strike, ValueStep};
 use crate::graft::{free_place, line_ids, linear_ids, node_ids, point_ids, slip_in, tramo_ids};
-use crate::model::{Model, Nodo, ObLin, Posicion, Tramo, Vertice};
+use crate::kinds::Kinds;
+use crate::model::{Model, Nodo, ObLin, ObPun, Posicion, Tramo, Vertice};
 use crate::random::Random;
 use crate::values::{fresh_id, height, moved, ORDER_MOST, X_MOST, Y_MOST};
 
@@ -365,6 +366,7 @@ pub const IDLE_NODE: &[ValueStep] = &[
         })
     },
     points_let_go,
+    held_by_one_point,
 ];
 
 /// A further node at one of the places, where neither vertex nor node stands.
@@ -406,17 +408,38 @@ fn ids_of_other_files(model: &Model) -> BTreeSet<u64> {
     ids
 }
 
-/// All point objects that hold a loose node lose their node id.
+/// All point objects that hold a loose node lose their node id, or all but one:
+/// one alone doesn't hold it.
 fn points_let_go(random: &mut Random, model: &mut Model) -> bool {
     let loose = model.nodo.iter().filter(|node| {
-        !model.has_vertex_at(node.posicion.xy()) && model.is_named_by_point(node.id_nodo)
+        !model.has_vertex_at(node.posicion.xy()) && model.is_held_by_points(node.id_nodo)
     });
     let ids = loose.map(|node| node.id_nodo).collect();
     strike(random.one_of(ids), |id: u64| {
-        for point in &mut model.ob_pun {
-            if point.id_nodo == Some(id) {
-                point.id_nodo = None;
-            }
+        let mut namers = model.namers(id);
+        random.shuffle(&mut namers);
+        let kept = random.index(2);
+        for &point in &namers[kept..] {
+            model.ob_pun[point].id_nodo = None;
+        }
+    })
+}
+
+/// A further node where only one point object names it, and perhaps another
+/// lies there and names none.
+fn held_by_one_point(random: &mut Random, model: &mut Model) -> bool {
+    strike(random.one_of(model.ob_pun.clone()), |like| {
+        let position = Posicion::at(free_place(random, model), height(random));
+        let id = fresh_id(random, &node_ids(model));
+        add_node_of_id(random, model, id, position);
+        for id_nodo in [Some(id), None] {
+            let point = ObPun {
+                id_opun: fresh_id(random, &point_ids(model)),
+                id_nodo,
+                posicion: position,
+                ..like.clone()
+            };
+            slip_in(random, &mut model.ob_pun, point);
         }
     })
 }
@@ -460,4 +483,61 @@ fn tramos_go_to_another_linear(random: &mut Random, model: &mut Model) -> bool {
         }
     }
     true
+}
+
+// Reason 58.
+
+pub const OTHER_KIND: &[ValueStep] = &[
+    // Another code for a node that stays what it is.
+    |random, model| {
+        let kinds = Kinds::of(model);
+        let nodes = (0..model.nodo.len()).collect();
+        strike(random.one_of(nodes), |place: usize| {
+            let node = &mut model.nodo[place];
+            node.tipo = random.pick(&kinds.kind(node).other_codes());
+        })
+    },
+    // A line that now passes a node which is said to be an end alone, or isolated.
+    |random, model| {
+        let said = places_where(&model.nodo, |node| b"AE".contains(&node.tipo));
+        let node = random.one_of(said).map(|place| model.nodo[place].posicion);
+        let lines = numbered_lines(model);
+        strike(node.zip(random.one_of(lines)), |(at, course)| {
+            pass_by(random, model, &course, at);
+        })
+    },
+    // One code for all, whatever they are.
+    |random, model| {
+        let kinds = Kinds::of(model);
+        let others = model.nodo.iter().map(|node| kinds.kind(node).other_codes());
+        strike(random.one_of(others.flatten().collect()), |code| {
+            for node in &mut model.nodo {
+                node.tipo = code;
+            }
+        })
+    },
+];
+
+/// The lines that are numbered from 1 without a gap, as places in VERTICE by order.
+fn numbered_lines(model: &Model) -> Vec<Vec<usize>> {
+    let lines = model.lines().into_iter();
+    let mut courses: Vec<Vec<usize>> = lines.map(|line| model.line_vertices(line)).collect();
+    courses.retain(|course| course.len() > 1 && is_numbered(model, course));
+    courses
+}
+
+/// A further middle vertex of the line, at this X and Y.
+fn pass_by(random: &mut Random, model: &mut Model, course: &[usize], at: Posicion) {
+    for &vertex in &course[1..] {
+        model.vertice[vertex].no_orden += 1;
+    }
+    let vertex = Vertice {
+        id_linea: model.vertice[course[0]].id_linea,
+        no_orden: 2,
+        posicion: Posicion {
+            z: height(random),
+            ..at
+        },
+    };
+    slip_in(random, &mut model.vertice, vertex);
 }

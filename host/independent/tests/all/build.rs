@@ -132,7 +132,8 @@ pub fn small() -> Files {
 }
 
 /// A lawful delivery with something in each file: a line shared by two
-/// tramos, two nodes one above the other, signs both ways, words and texts.
+/// tramos, two nodes one above the other, one that stands alone, codes of
+/// nodes, signs both ways, words and texts.
 pub fn rich() -> Files {
     let mut files = small();
     add(&mut files, 1, &[(1, b"0200000"), (2, b"P"), (3, b"POZO")]);
@@ -157,6 +158,13 @@ pub fn rich() -> Files {
     place(&mut files, 2, 1, 8, -7, 0, Some(-3));
     add(&mut files, 2, &[(1, b"0000000007"), (4, b"9")]);
     place(&mut files, 2, 2, 8, 999_999_999, -9_999_999_999, None);
+    // The first point's node stands alone, so that two have to name it.
+    add(
+        &mut files,
+        2,
+        &[(1, b"0000000008"), (3, b"0000000003"), (4, b"9")],
+    );
+    place(&mut files, 2, 3, 8, -7, 0, None);
     add(
         &mut files,
         3,
@@ -207,7 +215,9 @@ pub fn rich() -> Files {
     node(&mut files, 3, -7, 0, None);
     node(&mut files, 4, -7, -9, Some(1));
     node(&mut files, 5, -7, -9, Some(2));
+    set(&mut files, 7, 3, 2, b"A");
     set(&mut files, 7, 4, 2, b"E");
+    set(&mut files, 7, 5, 2, b"C");
     files
 }
 

@@ -291,8 +291,8 @@ fn reasons_50_and_51_at_each_vertex() {
     });
     // Line 1 keeps 0 and 1, line 0 has 1, 3 and 4: 50 and 51 in each. The end
     // nodes of the two tramos of line 1 and that of line 0 aren't at the
-    // highest order any more.
-    assert_eq!(alone, cells(&[(5, 50, 3), (6, 50, 4)]));
+    // highest order any more, and so node 4 is no end alone.
+    assert_eq!(alone, cells(&[(5, 50, 3), (6, 50, 4), (7, 50, 1)]));
 }
 
 #[test]
@@ -309,6 +309,8 @@ fn reasons_52_and_53_at_each_tramo_of_a_line() {
             set(f, 5, tramo, 6, b"0000000003");
             set(f, 5, tramo, 7, b"0000000003");
         }
+        // Nodes 3 and 4 are what they weren't.
+        set(f, 7, 3, 2, b"E");
     });
     assert_eq!(all, cells(&[(5, 50, 6)]));
 }
@@ -348,7 +350,7 @@ fn reason_55_at_each_point() {
         place(f, 7, 3, 3, 5, 5, None);
         set(f, 2, 2, 3, b"0000000003");
     });
-    assert_eq!(moved, cells(&[(2, 50, 2)]));
+    assert_eq!(moved, cells(&[(2, 50, 3)]));
 }
 
 #[test]
@@ -360,6 +362,43 @@ fn reason_56_at_each_node_without_use() {
         node(f, 6, 100, 201, None);
     });
     assert_eq!(found, cells(&[(7, 50, 3)]));
+}
+
+#[test]
+fn reason_56_and_58_at_one_node() {
+    let found = of_small(|f| {
+        for (id, code) in [(3, b"A"), (4, b"E"), (5, b"C"), (6, b" ")] {
+            node(f, id, 0, id as i64, None);
+            set(f, 7, id as usize, 2, code);
+        }
+    });
+    assert_eq!(found, cells(&[(7, 50, 6)]));
+}
+
+#[test]
+fn reason_58_at_each_node_with_another_code() {
+    for (code, count) in [
+        (b"A", 4),
+        (b"C", 1),
+        (b"E", 1),
+        (b"I", 5),
+        (b"H", 5),
+        (b" ", 0),
+    ] {
+        let found = of_rich(|f| {
+            for node in 1..=5 {
+                set(f, 7, node, 2, code);
+            }
+        });
+        assert_eq!(found, cells(&[(7, 50, count)]), "{code:?}");
+    }
+    // One vertex more in the middle of a line changes what two nodes there are.
+    let passed = of_rich(|f| {
+        vertex(f, 0, 4, -7, -9, None);
+        set(f, 6, 6, 2, b"00004");
+        set(f, 7, 5, 2, b"E");
+    });
+    assert_eq!(passed, cells(&[(7, 50, 2)]));
 }
 
 #[test]

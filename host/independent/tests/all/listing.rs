@@ -117,6 +117,9 @@ fn twenties_of_record(files: &Files, file: usize, record: usize) -> Vec<Place> {
         let outside = match (file, field, of_six(file, field)) {
             (1, 2, _) => !b"PXLT".contains(&have[0]),
             (5, 8, _) => !b"+-".contains(&have[0]),
+            (7, 2, _) => !b"ACEIH".contains(&have[0]),
+            (2, 6, _) | (3, 7, _) => have[..3] > b"359"[..] || have[3..] > b"59"[..],
+            (3, 8, _) => have == b"0",
             (_, _, Some(i)) if i % 2 == 0 => {
                 let size = at(i + 1);
                 let zero = size.iter().all(|&b| b == b'0');
@@ -261,11 +264,30 @@ fn fifties(files: &Files, list: &mut Vec<Place>) {
         }
         let id = bytes(files, 7, later, 1);
         let ends = |t: usize| bytes(files, 5, t, 6) == id || bytes(files, 5, t, 7) == id;
+        let namers = records(files, 2).filter(|&p| bytes(files, 2, p, 3) == id);
         if !records(files, 5).any(ends)
             && !records(files, 6).any(|v| xy(files, 6, v) == xy(files, 7, later))
-            && !records(files, 2).any(|p| bytes(files, 2, p, 3) == id)
+            && namers.count() < 2
         {
             list.push((5, 7, later, 0, 56));
+        }
+        // The codes that would do for it, by all vertices at its place.
+        let here = records(files, 6).filter(|&v| xy(files, 6, v) == xy(files, 7, later));
+        let is_last = |v: usize| {
+            let line = bytes(files, 6, v, 1);
+            vertices_of(line).all(|w| order(w) <= order(v))
+        };
+        let (at_ends, between): (Vec<usize>, Vec<usize>) =
+            here.partition(|&v| order(v) == 1 || is_last(v));
+        let is_end = records(files, 5).any(ends) || !at_ends.is_empty();
+        let lawful = match (is_end, between.is_empty()) {
+            (false, true) => b"A ".to_vec(),
+            (true, true) => b"CE ".to_vec(),
+            (false, false) => b"CI ".to_vec(),
+            (true, false) => b"CH ".to_vec(),
+        };
+        if !lawful.contains(&bytes(files, 7, later, 2)[0]) {
+            list.push((5, 7, later, 2, 58));
         }
     }
     for point in records(files, 2) {
@@ -342,7 +364,7 @@ pub fn disturb(files: &mut Files, noise: &mut Noise) {
     let record = noise.below(count);
     let other = noise.below(count);
     let bytes = &mut files[file - 1];
-    match noise.below(12) {
+    match noise.below(13) {
         0 => {
             bytes.drain(record * length..(record + 1) * length);
         }
@@ -379,6 +401,7 @@ pub fn disturb(files: &mut Files, noise: &mut Noise) {
             let number = NUMBERS[file - 1].contains(&field);
             let new = match kind {
                 5 if noise.below(2) == 0 => vec![b' '; width],
+                11 if file == 7 && field == 2 => vec![b"ACEIHae "[noise.below(8)]],
                 // A0 anywhere in a text, its first and last byte included.
                 10 if !number => {
                     let mut text = bytes[from..from + width].to_vec();
@@ -423,7 +446,7 @@ fn the_first_break_is_the_least_of_the_list() {
         seen[found.map_or(0, |b| usize::from(b.reason))] += 1;
     }
     for reason in [
-        0, 11, 20, 21, 22, 23, 24, 25, 30, 40, 41, 50, 51, 52, 53, 54, 55, 56, 57,
+        0, 11, 20, 21, 22, 23, 24, 25, 30, 40, 41, 50, 51, 52, 53, 54, 55, 56, 57, 58,
     ] {
         assert!(seen[reason] >= 5, "{reason}: {}", seen[reason]);
     }

@@ -86,7 +86,11 @@ fn the_fields_are_those_of_the_table() {
     }
     assert_eq!(form(1, 1), Form::Code);
     assert_eq!(form(1, 2), Form::Tipo);
-    assert_eq!(form(7, 2), Form::Text);
+    assert_eq!(form(7, 2), Form::NodeType);
+    assert_eq!(
+        (form(2, 6), form(3, 8)),
+        (Form::Orientation, Form::Justification)
+    );
 }
 
 #[test]
@@ -364,12 +368,80 @@ fn domains_are_65() {
         written(5, &values);
     }
     let mut values = a_node();
-    values[1] = text(b"\xA1");
-    assert_eq!(written(7, &values)[11], 0xA1);
-    for bad in [&b"\xA0"[..], b"AB"] {
-        values[1] = text(bad);
-        assert_eq!(refused(7, &values), (63, 2));
+    for code in *b"ACEIH" {
+        values[1] = text(&[code]);
+        assert_eq!(written(7, &values)[11], code);
     }
+    for (bad, reason) in [
+        (&b"\xA0"[..], 63),
+        (b"AB", 63),
+        (b"\xA1", 65),
+        (b"e", 65),
+        (b"P", 65),
+        (b"|", 65),
+    ] {
+        values[1] = text(bad);
+        assert_eq!(refused(7, &values), (reason, 2));
+    }
+}
+
+fn a_label() -> Vec<Value> {
+    let mut values = vec![Missing; 14];
+    values[0] = Number(1);
+    values[2] = text(b"0300000");
+    values[4] = Number(12);
+    values[7] = Number(5);
+    values[9] = Coordinate(1);
+    values[11] = Coordinate(1);
+    values
+}
+
+fn a_point() -> Vec<Value> {
+    let mut values = vec![Missing; 13];
+    values[0] = Number(1);
+    values[3] = text(b"0200000");
+    values[8] = Coordinate(1);
+    values[10] = Coordinate(1);
+    values
+}
+
+#[test]
+fn w203_numbers_outside_their_domains_are_65() {
+    for (value, reason) in [
+        (0, 0),
+        (59, 0),
+        (60, 65),
+        (99, 65),
+        (100, 0),
+        (35_900, 0),
+        (35_959, 0),
+        (35_960, 65),
+        (36_000, 65),
+        (99_959, 65),
+        (99_999, 65),
+        (100_000, 62),
+        (u64::MAX, 62),
+    ] {
+        for (file, field, mut values) in [(2, 6, a_point()), (3, 7, a_label())] {
+            values[field - 1] = Number(value);
+            match reason {
+                0 => assert_eq!(read(file, &written(file, &values), 1), Ok(values)),
+                _ => assert_eq!(refused(file, &values), (reason, field), "{value}"),
+            }
+        }
+    }
+    for value in 0..=11 {
+        let mut values = a_label();
+        values[7] = Number(value);
+        match value {
+            0 => assert_eq!(refused(3, &values), (65, 8)),
+            1..=9 => assert_eq!(read(3, &written(3, &values), 1), Ok(values)),
+            _ => assert_eq!(refused(3, &values), (62, 8)),
+        }
+    }
+    let mut values = a_label();
+    values[7] = Missing;
+    assert_eq!(refused(3, &values), (64, 8));
 }
 
 #[test]
@@ -432,12 +504,16 @@ fn random_value(noise: &mut Noise, file: usize, field: usize) -> Value {
         (_, 0) => Missing,
         (_, 1) => Number(noise.next()),
         (Form::Sign, _) => Missing,
-        (Form::Number, 2) => Number(digits as u64),
-        (Form::Number, _) => Number(noise.next() % digits as u64),
+        (Form::Number | Form::Orientation | Form::Justification, 2) => Number(digits as u64),
+        (Form::Orientation, 3..=8) => Number(noise.next() % 360 * 100 + noise.next() % 62),
+        (Form::Number | Form::Orientation | Form::Justification, _) => {
+            Number(noise.next() % digits as u64)
+        }
         (Form::Size, 2) => Coordinate(-digits),
         (Form::Size, _) => Coordinate((noise.next() >> 1) as i64 % (2 * digits) - digits),
         (Form::Tipo, _) => text(&[b"PXLTC"[noise.below(5)]]),
         (Form::Sense, _) => text(&[b"+-x"[noise.below(3)]]),
+        (Form::NodeType, _) => text(&[b"ACEIHae"[noise.below(7)]]),
         (Form::Code, _) => random_text(noise, 7),
         (Form::Text, _) => random_text(noise, width(file, field)),
     }
@@ -447,11 +523,10 @@ fn random_value(noise: &mut Noise, file: usize, field: usize) -> Value {
 /// the variants that the fields have.
 fn plain(file: usize, values: &[Value]) -> Vec<Value> {
     let keep = |field: usize| match (form(file, field), values.get(field - 1)) {
-        (Form::Number, Some(Number(n))) => Number(*n),
+        (Form::Number | Form::Orientation | Form::Justification, Some(Number(n))) => Number(*n),
         (Form::Size, Some(Coordinate(c))) => Coordinate(*c),
-        (Form::Text | Form::Code | Form::Tipo | Form::Sense, Some(Text(t))) if !t.is_empty() => {
-            Text(t.clone())
-        }
+        (Form::Sign | Form::Size, _) => Missing,
+        (_, Some(Text(t))) if !t.is_empty() => Text(t.clone()),
         _ => Missing,
     };
     (1..=fields(file)).map(keep).collect()

@@ -4,7 +4,7 @@ use crate::build::{add, after, lent, node, place, rich, said, set, small, vertex
 use independent::{judge, program_line, read, Break, Refusal, Value, Verdict, LENGTHS};
 
 const S_OK: &str = "OK 00002 00000 00000 00001 00001 00002 00002";
-const RICH_OK: &str = "OK 00005 00002 00001 00002 00003 00005 00005";
+const RICH_OK: &str = "OK 00005 00003 00001 00002 00003 00005 00005";
 
 /// What is said of S after a change.
 fn of_small(change: impl Fn(&mut Files)) -> String {
@@ -254,13 +254,10 @@ fn w202_a0_within_a_text_stays_lawful() {
 fn w202_every_a_field_follows() {
     // Of one byte: either TIPO, a sign, the sense. A1 beside each is what any
     // other byte is there.
-    for (file, field, other) in [(1, 2, "25"), (5, 8, "25"), (7, 3, "25"), (7, 2, "")] {
-        let said = of_small(|f| set(f, file, 1, field, b"\xA0"));
-        assert_eq!(said, format!("NO 23 {file} 00001 {field:02}"));
-        let beside = of_small(|f| set(f, file, 1, field, b"\xA1"));
-        match other {
-            "" => assert_eq!(beside, S_OK),
-            reason => assert_eq!(beside, format!("NO {reason} {file} 00001 {field:02}")),
+    for (file, field) in [(1, 2), (5, 8), (7, 3), (7, 2)] {
+        for (byte, reason) in [(b"\xA0", 23), (b"\xA1", 25)] {
+            let said = of_small(|f| set(f, file, 1, field, byte));
+            assert_eq!(said, format!("NO {reason} {file} 00001 {field:02}"));
         }
     }
     // CODIGO: NA before A0 is no longer a code and never was missing.
@@ -331,7 +328,13 @@ fn r09_types_and_sense() {
         // A0 alone would begin in A0: W-202.
         let in_a = (0x20..=0x7E).contains(&byte) || byte > 0xA0;
         let nodo = of_small(|f| set(f, 7, 1, 2, &[byte]));
-        assert_eq!(nodo, if in_a { S_OK } else { "NO 23 7 00001 02" });
+        let expected = match byte {
+            b'C' | b'E' | b' ' => S_OK,
+            b'A' | b'I' | b'H' => "NO 58 7 00001 02",
+            _ if in_a => "NO 25 7 00001 02",
+            _ => "NO 23 7 00001 02",
+        };
+        assert_eq!(nodo, expected, "{byte:02X}");
 
         let catalogue = of_rich(|f| set(f, 1, 5, 2, &[byte]));
         let expected = match byte {
@@ -375,14 +378,51 @@ fn r10_0_is_an_id_and_a_blank_id_is_none() {
 #[test]
 fn r10_any_digits_in_the_small_numbers() {
     let said = of_rich(|f| {
-        set(f, 2, 1, 6, b"99999");
         set(f, 2, 1, 7, b"000");
         set(f, 3, 1, 5, b"000");
         set(f, 3, 1, 6, b"999");
-        set(f, 3, 1, 7, b"36000");
-        set(f, 3, 1, 8, b"0");
     });
     assert_eq!(said, RICH_OK);
+}
+
+#[test]
+fn w203_an_orientation_is_degrees_and_minutes() {
+    for (file, field) in [(2, 6), (3, 7)] {
+        for number in 0..100_000_u32 {
+            let bytes = format!("{number:05}").into_bytes();
+            let (degrees, minutes) = (number / 100, number % 100);
+            // Each edge with some on either side of it.
+            if ![0, 1, 59, 60, 61, 99].contains(&minutes) && degrees % 90 != 0 {
+                continue;
+            }
+            let lawful = degrees <= 359 && minutes <= 59;
+            let mut files = rich();
+            set(&mut files, file, 1, field, &bytes);
+            let found = read(file, &files[file - 1], 1).err();
+            let expected = Refusal { reason: 25, field };
+            assert_eq!(found, (!lawful).then_some(expected), "{number:05}");
+        }
+        assert_eq!(of_rich(|f| set(f, file, 1, field, b"")), RICH_OK);
+        assert_eq!(of_rich(|f| set(f, file, 1, field, b"35959")), RICH_OK);
+        let past = of_rich(|f| set(f, file, 1, field, b"36000"));
+        assert_eq!(past, format!("NO 25 {file} 00001 {field:02}"));
+        let damaged = of_rich(|f| set(f, file, 1, field, b"360 0"));
+        assert_eq!(damaged, format!("NO 22 {file} 00001 {field:02}"));
+    }
+}
+
+#[test]
+fn w203_a_justification_is_1_to_9() {
+    for digit in b'0'..=b'9' {
+        let said = of_rich(|f| set(f, 3, 1, 8, &[digit]));
+        let expected = if digit == b'0' {
+            "NO 25 3 00001 08"
+        } else {
+            RICH_OK
+        };
+        assert_eq!(said, expected);
+    }
+    assert_eq!(of_rich(|f| set(f, 3, 1, 8, b"")), "NO 24 3 00001 08");
 }
 
 #[test]
@@ -563,6 +603,7 @@ fn a_point_is_held_against_the_node_it_names() {
     assert_eq!(x, "NO 55 2 00001 03");
     let y = of_rich(|f| set(f, 2, 1, 11, b"0000000001"));
     assert_eq!(y, "NO 55 2 00001 03");
+    // The other point alone doesn't hold the node (W-203).
     let none = of_rich(|f| set(f, 2, 1, 3, b""));
     assert_eq!(none, "NO 56 7 00003 00");
     let unknown = of_rich(|f| set(f, 2, 2, 3, b"0000000099"));
@@ -579,6 +620,192 @@ fn a_node_has_a_use() {
     assert_eq!(beside, "NO 56 7 00006 00");
     let linear = of_small(|f| add(f, 4, &[(1, b"0000000002"), (3, b"0100000")]));
     assert_eq!(linear, "NO 57 4 00002 00");
+}
+
+#[test]
+fn w203_a_node_that_stands_alone_is_named_by_two_points() {
+    let alone = |points: u64| {
+        of_small(|f| {
+            add(f, 1, &[(1, b"0200000"), (2, b"P")]);
+            node(f, 3, 7, 8, None);
+            for id in 0..points {
+                let id = format!("{id:010}");
+                add(
+                    f,
+                    2,
+                    &[(1, id.as_bytes()), (3, b"0000000003"), (4, b"0200000")],
+                );
+                place(f, 2, f[1].len() / 149, 8, 7, 8, None);
+            }
+        })
+    };
+    assert_eq!(alone(0), "NO 56 7 00003 00");
+    assert_eq!(alone(1), "NO 56 7 00003 00");
+    assert!(alone(2).starts_with("OK"));
+    assert!(alone(3).starts_with("OK"));
+    // A second point that lies there and names nothing, or another node, is none.
+    let beside = of_rich(|f| set(f, 2, 3, 3, b""));
+    assert_eq!(beside, "NO 56 7 00003 00");
+    // One is enough where a vertex is there, or a tramo ends.
+    let on_a_line = of_rich(|f| {
+        set(f, 2, 3, 3, b"0000000001");
+        set(f, 2, 1, 3, b"");
+        place(f, 2, 3, 8, 100, 200, None);
+        set(f, 7, 3, 2, b"");
+        place(f, 7, 3, 3, 0, 0, None);
+    });
+    assert_eq!(on_a_line, RICH_OK);
+}
+
+/// A line from (0, 0) by (5, 0) and (10, 0) to (20, 0), another from (10, 0) to
+/// (10, 10), and nodes: 1 and 2 at ends, 3 at both, 4 at an end, 5 at a middle
+/// vertex, and 6 alone with two points that name it.
+fn all_kinds() -> Files {
+    let mut files = Files::default();
+    for (code, tipo) in [(b"1", b"L"), (b"2", b"T"), (b"3", b"P")] {
+        add(&mut files, 1, &[(1, code), (2, tipo)]);
+    }
+    for id in [b"0000000001", b"0000000002"] {
+        add(&mut files, 2, &[(1, id), (3, b"0000000006"), (4, b"3")]);
+        let record = files[1].len() / 149;
+        place(&mut files, 2, record, 8, 50, 50, None);
+    }
+    add(&mut files, 4, &[(1, b"0000000001"), (3, b"1")]);
+    for (id, start, end) in [
+        (b"0000000001", b"0000000001", b"0000000002"),
+        (b"0000000002", b"0000000003", b"0000000004"),
+    ] {
+        let names = [(2, &b"0000000001"[..]), (5, b"2"), (6, start), (7, end)];
+        add(&mut files, 5, &[&[(1, &id[..])], &names[..]].concat());
+    }
+    for (order, x) in [(1, 0), (2, 5), (3, 10), (4, 20)] {
+        vertex(&mut files, 1, order, x, 0, None);
+    }
+    vertex(&mut files, 2, 1, 10, 0, None);
+    vertex(&mut files, 2, 2, 10, 10, None);
+    for (id, x, y) in [
+        (1, 0, 0),
+        (2, 20, 0),
+        (3, 10, 0),
+        (4, 10, 10),
+        (5, 5, 0),
+        (6, 50, 50),
+    ] {
+        node(&mut files, id, x, y, None);
+    }
+    files
+}
+
+/// What is said where a node of those has a code.
+fn coded(node: usize, code: u8) -> String {
+    let mut files = all_kinds();
+    set(&mut files, 7, node, 2, &[code]);
+    said(&files)
+}
+
+#[test]
+fn w203_each_code_at_each_kind_of_node() {
+    let ok = "OK 00003 00002 00000 00001 00002 00006 00006";
+    for (node, agreeing) in [
+        (1, b"EC"),
+        (2, b"EC"),
+        (3, b"HC"),
+        (4, b"EC"),
+        (5, b"IC"),
+        (6, b"AA"),
+    ] {
+        for code in *b"ACEIH " {
+            let expected = if code == b' ' || agreeing.contains(&code) {
+                ok.to_string()
+            } else {
+                format!("NO 58 7 {node:05} 02")
+            };
+            assert_eq!(coded(node, code), expected, "{}", char::from(code));
+        }
+        for code in *b"aceihPX0*" {
+            assert_eq!(coded(node, code), format!("NO 25 7 {node:05} 02"));
+        }
+    }
+}
+
+#[test]
+fn w203_what_a_node_is_goes_by_id_or_by_x_and_y() {
+    let of_kinds = |change: &dyn Fn(&mut Files)| {
+        let mut files = all_kinds();
+        change(&mut files);
+        said(&files)
+    };
+    // A second node at a line's end, with another Z, is an end too.
+    for (code, lawful) in [(b"E", true), (b"A", false), (b"I", false)] {
+        let above = of_kinds(&|f| {
+            node(f, 7, 0, 0, Some(9));
+            set(f, 7, 7, 2, code);
+        });
+        assert_eq!(above.starts_with("OK"), lawful, "{above}");
+    }
+    // A line that passes its own beginning makes both of it.
+    let own = of_kinds(&|f| {
+        place(f, 6, 2, 3, 0, 0, None);
+        f[6].truncate(200);
+        node(f, 6, 50, 50, None);
+        set(f, 7, 1, 2, b"H");
+    });
+    assert!(own.starts_with("OK"), "{own}");
+    // An end by id alone: its line is elsewhere, which file 5 tells first.
+    let by_id = of_kinds(&|f| {
+        place(f, 7, 1, 3, 77, 77, None);
+        set(f, 7, 1, 2, b"E");
+    });
+    assert_eq!(by_id, "NO 52 5 00001 06");
+}
+
+/// The first vertex is the one of order 1 also where there is an order 0, and
+/// a line's only vertex is its last.
+#[test]
+fn w203_first_and_last_where_orders_are_broken() {
+    let counted = |code: &[u8], change: &dyn Fn(&mut Files)| {
+        let mut files = all_kinds();
+        change(&mut files);
+        set(&mut files, 7, 1, 2, code);
+        independent::grid(lent(&files))[6][4]
+    };
+    // Orders 0, 1, 2: (0, 0) is where the order 0 is, besides the start node.
+    let from_0 = |f: &mut Files| {
+        for (vertex, order) in [(1, b"00000"), (2, b"00001"), (3, b"00002"), (4, b"00003")] {
+            set(f, 6, vertex, 2, order);
+        }
+    };
+    assert_eq!(counted(b"H", &from_0), 0);
+    assert_eq!(counted(b"E", &from_0), 1);
+    // Only an order 3 is left of line 1: it is the last, and no first is there.
+    let only_3 = |f: &mut Files| {
+        let third = f[5][108..162].to_vec();
+        let others = f[5][216..].to_vec();
+        f[5] = [third, others].concat();
+        place(f, 6, 1, 3, 0, 0, None);
+        // Nodes 3 and 5 change what they are, and have no codes.
+    };
+    assert_eq!(counted(b"E", &only_3), 1);
+    assert_eq!(counted(b"H", &only_3), 2);
+}
+
+#[test]
+fn w203_58_stands_behind_56_and_before_the_next_node() {
+    let both = of_small(|f| {
+        node(f, 3, 7, 7, None);
+        set(f, 7, 3, 2, b"E");
+    });
+    assert_eq!(both, "NO 56 7 00003 00");
+    let later = of_small(|f| {
+        node(f, 3, 7, 7, None);
+        set(f, 7, 2, 2, b"H");
+    });
+    assert_eq!(later, "NO 58 7 00002 02");
+    // It may break 56 and agree with its code.
+    let mut files = small();
+    node(&mut files, 3, 7, 7, None);
+    set(&mut files, 7, 3, 2, b"A");
+    assert_eq!(independent::grid(lent(&files))[6][4], 1);
 }
 
 #[test]

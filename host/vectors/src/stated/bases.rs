@@ -79,6 +79,188 @@ pub(super) const EXAMPLE: &Rows = &[
     (NODO, "6;A;3;2;"),
 ];
 
+/// Nodes, vertices and the tramos' lines and nodes of source 000's example 10.3
+/// (lines 3728 to 3786), with + for the signs that aren't printed. Its objects,
+/// composites, surfaces and codes are replaced: one linear object for all
+/// tramos, no perimeters.
+pub(super) const NODES_OF_10_3: &Rows = &[
+    (CATALOGO, "0100000;L;;"),
+    (CATALOGO, "0100001;T;;"),
+    (CATALOGO, "0200000;P;;"),
+    (OB_PUN, "1;;6;0200000;Ermita del Santo;0;0;3;2;"),
+    (OB_PUN, "2;;6;0200000;Almudena;0;0;3;2;"),
+    (OB_LIN, "0;;0100000;;;;"),
+    (TRAMO, "1;0;;1;0100001;1;1;+"),
+    (TRAMO, "2;0;;2;0100001;2;3;+"),
+    (TRAMO, "3;0;;3;0100001;3;4;+"),
+    (TRAMO, "4;0;;6;0100001;4;5;+"),
+    (TRAMO, "5;0;;7;0100001;5;2;+"),
+    (TRAMO, "6;0;;1;0100001;1;1;-"),
+    (TRAMO, "7;0;;3;0100001;3;4;+"),
+    (TRAMO, "8;0;;4;0100001;4;3;-"),
+    (TRAMO, "9;0;;5;0100001;3;4;+"),
+    (TRAMO, "10;0;;4;0100001;4;3;-"),
+    (TRAMO, "11;0;;2;0100001;2;3;-"),
+    (TRAMO, "12;0;;8;0100001;3;4;+"),
+    (TRAMO, "13;0;;6;0100001;4;5;+"),
+    (TRAMO, "14;0;;5;0100001;5;2;-"),
+    (TRAMO, "15;0;;8;0100001;2;5;+"),
+    (TRAMO, "16;0;;7;0100001;5;2;+"),
+    (VERTICE, "1;1;2;4;"),
+    (VERTICE, "1;2;2;3;"),
+    (VERTICE, "1;3;3;3;"),
+    (VERTICE, "1;4;2;4;"),
+    (VERTICE, "2;1;4;8;"),
+    (VERTICE, "2;2;5;7;"),
+    (VERTICE, "3;1;5;7;"),
+    (VERTICE, "3;2;3;4;"),
+    (VERTICE, "3;3;7;3;"),
+    (VERTICE, "4;1;5;7;"),
+    (VERTICE, "4;2;7;3;"),
+    (VERTICE, "5;1;5;7;"),
+    (VERTICE, "5;2;9;5;"),
+    (VERTICE, "5;3;7;3;"),
+    (VERTICE, "6;1;7;3;"),
+    (VERTICE, "6;2;9;1;"),
+    (VERTICE, "7;1;9;1;"),
+    (VERTICE, "7;2;1;1;"),
+    (VERTICE, "7;3;1;8;"),
+    (VERTICE, "7;4;4;8;"),
+    (VERTICE, "8;1;4;8;"),
+    (VERTICE, "8;2;10;8;"),
+    (VERTICE, "8;3;10;1;"),
+    (VERTICE, "8;4;9;1;"),
+    (NODO, "1;E;2;4;"),
+    (NODO, "2;E;4;8;"),
+    (NODO, "3;E;5;7;"),
+    (NODO, "4;E;7;3;"),
+    (NODO, "5;E;9;1;"),
+    (NODO, "6;A;3;2;"),
+];
+
+/// The same of example 10.4 (lines 4107 to 4144); the signs before its blank Z
+/// are left out.
+pub(super) const NODES_OF_10_4: &Rows = &[
+    (CATALOGO, "0100000;L;;"),
+    (CATALOGO, "0100001;T;;"),
+    (CATALOGO, "0200000;P;;"),
+    (OB_PUN, "1;;6;0200000;Ermita del Santo;0;0;3;2;"),
+    (OB_PUN, "2;;6;0200000;Almudena;0;0;3;2;"),
+    (OB_LIN, "1;;0100000;;;;"),
+    (TRAMO, "1;1;;1;0100001;1;1;+"),
+    (TRAMO, "2;1;;2;0100001;2;3;+"),
+    (TRAMO, "3;1;;3;0100001;3;4;+"),
+    (TRAMO, "4;1;;4;0100001;3;4;+"),
+    (TRAMO, "5;1;;5;0100001;4;3;-"),
+    (TRAMO, "6;1;;6;0100001;4;5;+"),
+    (VERTICE, "1;1;2;4;"),
+    (VERTICE, "1;2;2;3;"),
+    (VERTICE, "1;3;3;3;"),
+    (VERTICE, "1;4;2;4;"),
+    (VERTICE, "2;1;4;8;"),
+    (VERTICE, "2;2;5;7;"),
+    (VERTICE, "3;1;5;7;"),
+    (VERTICE, "3;2;3;4;"),
+    (VERTICE, "3;3;7;3;"),
+    (VERTICE, "4;1;5;7;"),
+    (VERTICE, "4;2;7;3;"),
+    (VERTICE, "5;1;7;3;"),
+    (VERTICE, "5;2;9;5;"),
+    (VERTICE, "5;3;5;7;"),
+    (VERTICE, "6;1;7;3;"),
+    (VERTICE, "6;2;9;1;"),
+    (NODO, "1;C;2;4;"),
+    (NODO, "2;C;4;8;"),
+    (NODO, "3;C;5;7;"),
+    (NODO, "4;C;7;3;"),
+    (NODO, "5;C;9;1;"),
+    (NODO, "6;A;3;2;"),
+];
+
+/// The same of example 10.5 (lines 4439 to 4490).
+pub(super) const NODES_OF_10_5: &Rows = &[
+    (CATALOGO, "0100000;L;;"),
+    (CATALOGO, "0100001;T;;"),
+    (CATALOGO, "0200000;P;;"),
+    (OB_PUN, "1;;6;0200000;Ermita del Santo;0;0;3;2;"),
+    (OB_PUN, "2;;6;0200000;Almudena;0;0;3;2;"),
+    (OB_LIN, "1;;0100000;;;;"),
+    (TRAMO, "1;1;;1;0100001;1;1;+"),
+    (TRAMO, "2;1;;2;0100001;2;3;+"),
+    (TRAMO, "3;1;;3;0100001;3;4;+"),
+    (TRAMO, "4;1;;3;0100001;3;4;+"),
+    (TRAMO, "5;1;;4;0100001;3;4;+"),
+    (TRAMO, "6;1;;5;0100001;4;3;-"),
+    (TRAMO, "7;1;;6;0100001;4;5;+"),
+    (TRAMO, "8;1;;7;0100001;7;3;+"),
+    (TRAMO, "9;1;;8;0100001;4;8;+"),
+    (VERTICE, "1;1;2;4;"),
+    (VERTICE, "1;2;2;3;"),
+    (VERTICE, "1;3;3;3;"),
+    (VERTICE, "1;4;2;4;"),
+    (VERTICE, "2;1;4;8;"),
+    (VERTICE, "2;2;5;7;"),
+    (VERTICE, "3;1;5;7;"),
+    (VERTICE, "3;2;3;4;"),
+    (VERTICE, "3;3;7;3;"),
+    (VERTICE, "4;1;5;7;"),
+    (VERTICE, "4;2;7;3;"),
+    (VERTICE, "5;1;7;3;"),
+    (VERTICE, "5;2;9;5;"),
+    (VERTICE, "5;3;5;7;"),
+    (VERTICE, "6;1;7;3;"),
+    (VERTICE, "6;2;9;1;"),
+    (VERTICE, "7;1;3;8;"),
+    (VERTICE, "7;2;5;7;"),
+    (VERTICE, "8;1;7;3;"),
+    (VERTICE, "8;2;6;1;"),
+    (NODO, "1;E;2;4;"),
+    (NODO, "2;E;4;8;"),
+    (NODO, "3;H;5;7;"),
+    (NODO, "4;H;7;3;"),
+    (NODO, "5;E;9;1;"),
+    (NODO, "6;A;3;2;"),
+    (NODO, "7;E;3;8;"),
+    (NODO, "8;E;6;1;"),
+];
+
+/// A line of four vertices and one that starts at its third, with nodes of each
+/// kind but the isolated one, without codes.
+pub(super) const KINDS: &Rows = &[
+    (CATALOGO, "0100000;L;;"),
+    (CATALOGO, "0100001;T;;"),
+    (OB_LIN, "1;;0100000;;;;"),
+    (TRAMO, "1;1;;;0100001;1;2;"),
+    (TRAMO, "2;1;;;0100001;3;4;"),
+    (VERTICE, "1;1;0;0;"),
+    (VERTICE, "1;2;5;0;"),
+    (VERTICE, "1;3;10;0;"),
+    (VERTICE, "1;4;20;0;"),
+    (VERTICE, "2;1;10;0;"),
+    (VERTICE, "2;2;10;10;"),
+    (NODO, "1;;0;0;"),   // 1  an end
+    (NODO, "2;;20;0;"),  // 2  an end
+    (NODO, "3;;10;0;"),  // 3  both: line 2 starts there, line 1 passes
+    (NODO, "4;;10;10;"), // 4  an end
+    (NODO, "5;;5;0;"),   // 5  intermediate
+];
+
+/// An isolated node without a code, which two point objects name, and nothing else.
+pub(super) const ALONE: &Rows = &[
+    (CATALOGO, "0200000;P;;"),
+    (OB_PUN, "1;;1;0200000;;;;50;50;"),
+    (OB_PUN, "2;;1;0200000;;;;50;50;"),
+    (NODO, "1;;50;50;"),
+];
+
+/// A point object and a text, and their codes.
+pub(super) const OBJECTS: &Rows = &[
+    (CATALOGO, "0200000;P;;"),
+    (CATALOGO, "0300000;X;;"),
+    (OB_PUN, "1;;;0200000;;0;;1;1;"),
+    (OB_TEX, "1;;0300000;;1;;0;5;1;1;"),
+];
+
 /// A richer lawful delivery, for most samples. Each row's record number stands
 /// behind it.
 #[rustfmt::skip]
@@ -97,7 +279,7 @@ pub(super) const RICH: &Rows = &[
     (OB_PUN, "3;;6;0200001;Mojón;0;;500;500;"),                         // 3  no Z though its node has one
     (OB_PUN, "0;;6;0200000;ND;;7;500;500;12"),                          // 4
     (OB_TEX, "1;;0300000;CAMINO REAL;3;2;9000;5;150;260;33"),           // 1
-    (OB_TEX, "0;;0300000;arriba|abajo;0;;;0;-10;-20;"),                 // 2
+    (OB_TEX, "0;;0300000;arriba|abajo;0;;;1;-10;-20;"),                 // 2
     (OB_TEX, "9999999999;;0300000;;1;;;9;0;0;-1"),                      // 3
     (OB_LIN, "7;;0100000;Camino Real;150;250;33"),                      // 1
     (OB_LIN, "3;;0400000;Linde|Norte;-1;2;"),                           // 2
@@ -146,3 +328,12 @@ pub(super) const S_OK: &str = "OK 00002 00000 00000 00001 00001 00002 00002";
 
 /// The richer delivery's line.
 pub(super) const RICH_OK: &str = "OK 00009 00004 00003 00004 00007 00021 00008";
+
+/// The line of the nodes of each kind.
+pub(super) const KINDS_OK: &str = "OK 00002 00000 00000 00001 00002 00006 00005";
+
+/// The isolated node's line.
+pub(super) const ALONE_OK: &str = "OK 00001 00002 00000 00000 00000 00000 00001";
+
+/// The line of the two objects.
+pub(super) const OBJECTS_OK: &str = "OK 00002 00001 00001 00000 00000 00000 00000";

@@ -1,6 +1,6 @@
-//! Document 01's S and its cases, and the example of source 000.
+//! Document 01's S and its cases, and the examples of source 000.
 
-use super::bases::{EXAMPLE, RICH_OK, S_OK};
+use super::bases::{EXAMPLE, NODES_OF_10_3, NODES_OF_10_4, NODES_OF_10_5, RICH_OK, S_OK};
 use super::{rich, s, Stated};
 use deliveries::{NODO, OB_LIN, TRAMO, VERTICE};
 
@@ -11,6 +11,29 @@ pub(super) fn cases() -> Vec<Stated> {
             EXAMPLE,
             "ejemplo-10-2",
             "OK 00007 00002 00001 00004 00006 00016 00006",
+            |_| {},
+        ),
+        // Its tramos under - are turned round, which R01 doesn't do; 12 and 14 don't
+        // end where their lines do. All codes agree, so no node is counted.
+        Stated::over(
+            NODES_OF_10_3,
+            "ejemplo-10-3-nodos",
+            "NO 52 5 00008 06",
+            |_| {},
+        ),
+        // C for ends, A for the isolated node: all agree.
+        Stated::over(
+            NODES_OF_10_4,
+            "ejemplo-10-4-nodos",
+            "OK 00003 00002 00000 00001 00006 00016 00006",
+            |_| {},
+        ),
+        // H for nodes 3 and 4. Every tramo is cut there and no line has another
+        // vertex at either, so both are ends alone.
+        Stated::over(
+            NODES_OF_10_5,
+            "ejemplo-10-5-nodos",
+            "NO 58 7 00003 02",
             |_| {},
         ),
         rich("rich", RICH_OK, |_| {}),

@@ -1,6 +1,6 @@
 //! Fields that break their rules: reasons 22 to 25.
 
-use super::{rich, s, Stated};
+use super::{objects, rich, s, Stated};
 use crate::draft::Draft;
 use deliveries::{CATALOGO, NODO, OB_LIN, OB_PUN, OB_TEX, TRAMO, VERTICE};
 
@@ -358,6 +358,45 @@ pub(super) fn reason_25() -> Vec<Stated> {
         ),
         rich("r25-sense-d", "NO 25 5 00003 08", |d| {
             d.put(TRAMO, 3, 8, b"D");
+        }),
+    ]
+}
+
+/// 25 by the notes of source 000's section 5.6 (W-203): orientation (5.6.6),
+/// justification (5.6.7) and a node's TIPO (5.6.11).
+pub(super) fn reason_25_by_notes() -> Vec<Stated> {
+    vec![
+        objects("r25-orientation-36000", "NO 25 2 00001 06", |d| {
+            d.num(OB_PUN, 1, 6, 36000);
+        }),
+        objects("r25-orientation-35960", "NO 25 3 00001 07", |d| {
+            d.num(OB_TEX, 1, 7, 35960);
+        }),
+        objects("r25-orientation-00060", "NO 25 2 00001 06", |d| {
+            d.num(OB_PUN, 1, 6, 60);
+        }),
+        objects("r25-orientation-99999", "NO 25 3 00001 07", |d| {
+            d.num(OB_TEX, 1, 7, 99999);
+        }),
+        objects("r25-justification-0", "NO 25 3 00001 08", |d| {
+            d.num(OB_TEX, 1, 8, 0);
+        }),
+        s("r25-node-type-small-letter", "NO 25 7 00001 02", |d| {
+            d.put(NODO, 1, 2, b"e");
+        }),
+        s("r25-node-type-p", "NO 25 7 00002 02", |d| {
+            d.put(NODO, 2, 2, b"P");
+        }),
+        s("r25-node-type-bar", "NO 25 7 00001 02", |d| {
+            d.put(NODO, 1, 2, b"|");
+        }),
+        s("r25-node-type-a1", "NO 25 7 00001 02", |d| {
+            d.put(NODO, 1, 2, b"\xa1");
+        }),
+        s("r25-before-58-of-a-lower-node", "NO 25 7 00002 02", |d| {
+            // H disagrees, which nobody asks before every code is one
+            d.put(NODO, 1, 2, b"H");
+            d.put(NODO, 2, 2, b"h");
         }),
     ]
 }

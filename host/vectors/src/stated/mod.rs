@@ -2,8 +2,10 @@
 //! should give and what was damaged beside it.
 //!
 //! Names: `s`, `ejemplo-10-2`, `case-01` to `case-13` as document 01 and source
-//! 000 say; `rich`, the lawful delivery that most others damage; `rNN-..`,
-//! refused with reason NN first; `ok-..`, near misses that stay accepted.
+//! 000 say; `ejemplo-10-3-nodos` and its like, the nodes and lines of source
+//! 000's other examples; `rich`, the lawful delivery that most others damage;
+//! `rNN-..`, refused with reason NN first; `ok-..`, near misses that stay
+//! accepted.
 //!
 //! Fields by number, for reading the damage; a place is the six fields sign, X,
 //! sign, Y, sign, Z:
@@ -27,7 +29,7 @@ mod shape;
 mod topology;
 
 use crate::draft::{Draft, Rows};
-use bases::{RICH, S};
+use bases::{ALONE, KINDS, OBJECTS, RICH, S};
 use deliveries::{Files, VERTICE};
 
 /// A delivery and the line that it should give, without its line feed.
@@ -50,6 +52,7 @@ pub fn stated() -> Vec<Stated> {
         fields::reason_23_by_a0(),
         fields::reason_24(),
         fields::reason_25(),
+        fields::reason_25_by_notes(),
         keys::reason_30(),
         keys::reason_40(),
         keys::reason_41(),
@@ -61,7 +64,9 @@ pub fn stated() -> Vec<Stated> {
         topology::reason_55(),
         topology::reason_56(),
         topology::reason_57(),
+        topology::reason_58(),
         near::near_misses(),
+        near::near_codes_and_domains(),
     ];
     groups.into_iter().flatten().collect()
 }
@@ -74,6 +79,21 @@ fn s(name: &'static str, line: &'static str, damage: fn(&mut Draft)) -> Stated {
 /// The richer delivery with a damage.
 fn rich(name: &'static str, line: &'static str, damage: fn(&mut Draft)) -> Stated {
     Stated::over(RICH, name, line, damage)
+}
+
+/// Nodes of each kind but the isolated one, with a damage.
+fn kinds(name: &'static str, line: &'static str, damage: fn(&mut Draft)) -> Stated {
+    Stated::over(KINDS, name, line, damage)
+}
+
+/// The isolated node with a damage.
+fn alone(name: &'static str, line: &'static str, damage: fn(&mut Draft)) -> Stated {
+    Stated::over(ALONE, name, line, damage)
+}
+
+/// The point object and the text with a damage.
+fn objects(name: &'static str, line: &'static str, damage: fn(&mut Draft)) -> Stated {
+    Stated::over(OBJECTS, name, line, damage)
 }
 
 impl Stated {

@@ -1,7 +1,8 @@
 //! Near misses that stay accepted.
 
-use super::bases::{RICH_OK, S_OK};
-use super::{rich, s, sort_line_20_as_text, Stated};
+use super::bases::{ALONE_OK, KINDS_OK, OBJECTS_OK, RICH_OK, S_OK};
+use super::topology::pass_own_start;
+use super::{alone, kinds, objects, rich, s, sort_line_20_as_text, Stated};
 use deliveries::{CATALOGO, NODO, OB_LIN, OB_PUN, OB_TEX, TRAMO, VERTICE};
 
 pub(super) fn near_misses() -> Vec<Stated> {
@@ -76,10 +77,9 @@ pub(super) fn near_misses() -> Vec<Stated> {
             d.text(OB_TEX, 1, 4, b"|CAMINO|REAL|");
             d.text(OB_LIN, 1, 4, b"Camino|Real");
         }),
-        rich("ok-bars-for-code-and-node-type", RICH_OK, |d| {
+        rich("ok-bars-for-a-code", RICH_OK, |d| {
             d.text(CATALOGO, 7, 1, b"|||||||");
             d.text(TRAMO, 4, 5, b"|||||||");
-            d.put(NODO, 1, 2, b"|");
         }),
         s(
             "ok-orders-10-and-2-the-wrong-way-round",
@@ -175,22 +175,14 @@ pub(super) fn near_misses() -> Vec<Stated> {
             d.text(CATALOGO, 1, 1, b"NA\xa1");
             d.text(OB_LIN, 1, 3, b"NA\xa1");
             d.text(OB_LIN, 1, 4, b"\xa1Camino\xa1");
-            d.put(NODO, 1, 2, b"\xa1");
         }),
         rich("ok-highest-bytes-in-texts", RICH_OK, |d| {
             d.text(OB_PUN, 1, 5, b"\xff~!\xa0\xfe");
-            d.put(NODO, 4, 2, b"\xff");
         }),
-        rich("ok-any-digits-in-m-and-justification", RICH_OK, |d| {
-            d.num(OB_PUN, 1, 6, 99999);
+        rich("ok-any-digits-in-m-height-and-width", RICH_OK, |d| {
             d.num(OB_PUN, 1, 7, 999);
             d.num(OB_TEX, 1, 5, 0);
-            d.num(OB_TEX, 1, 7, 36000);
-            d.num(OB_TEX, 1, 8, 0);
-        }),
-        rich("ok-one-of-two-points-names-the-node", RICH_OK, |d| {
-            d.blank(OB_PUN, 4, &[3]);
-            d.num(OB_PUN, 4, 9, 7);
+            d.num(OB_TEX, 1, 6, 999);
         }),
         rich("ok-node-on-a-middle-vertex-with-another-z", RICH_OK, |d| {
             d.put(NODO, 8, 7, b"-");
@@ -229,9 +221,83 @@ pub(super) fn near_misses() -> Vec<Stated> {
                 for file in [OB_LIN, TRAMO, VERTICE] {
                     d.records[file].clear();
                 }
-                // nodes 10 and 6 are named by points
+                // nodes 10 and 6 are left, and each is named by two points
                 d.lose(NODO, &[1, 2, 3, 5, 6, 8]);
+                d.num(OB_PUN, 2, 3, 10);
+                d.place(OB_PUN, 2, 200, 300, None);
+                d.put(NODO, 1, 2, b"A");
             },
         ),
+    ]
+}
+
+/// Codes of nodes that agree with what the nodes are, and values at the edges
+/// of their domains (W-203).
+pub(super) fn near_codes_and_domains() -> Vec<Stated> {
+    vec![
+        kinds("ok-nodes-without-codes", KINDS_OK, |_| {}),
+        kinds("ok-the-code-of-each-kind", KINDS_OK, |d| {
+            for (record, code) in [(1, b"E"), (2, b"E"), (3, b"H"), (4, b"E"), (5, b"I")] {
+                d.put(NODO, record, 2, code);
+            }
+        }),
+        kinds("ok-c-for-each-kind-but-isolated", KINDS_OK, |d| {
+            for record in 1..=5 {
+                d.put(NODO, record, 2, b"C");
+            }
+        }),
+        alone("ok-isolated-node-without-a-code", ALONE_OK, |_| {}),
+        alone("ok-a-for-an-isolated-node", ALONE_OK, |d| {
+            d.put(NODO, 1, 2, b"A");
+        }),
+        alone(
+            "ok-isolated-node-of-three-points",
+            "OK 00001 00003 00000 00000 00000 00000 00001",
+            |d| {
+                d.add(OB_PUN, "3;;1;0200000;;;;50;50;7");
+                d.put(NODO, 1, 2, b"A");
+            },
+        ),
+        kinds(
+            "ok-second-node-at-an-end-and-between",
+            "OK 00002 00000 00000 00001 00002 00006 00007",
+            |d| {
+                // by X and Y they are what the nodes below them are
+                d.add(NODO, "6;E;0;0;9");
+                d.add(NODO, "7;H;10;0;9");
+            },
+        ),
+        s(
+            "ok-end-that-its-own-line-passes",
+            "OK 00002 00000 00000 00001 00001 00003 00002",
+            |d| {
+                pass_own_start(d);
+                d.put(NODO, 1, 2, b"H");
+                d.put(NODO, 2, 2, b"E");
+            },
+        ),
+        kinds(
+            "ok-one-point-on-an-intermediate-node",
+            "OK 00003 00001 00000 00001 00002 00006 00005",
+            |d| {
+                d.add(CATALOGO, "0200000;P;;");
+                d.add(OB_PUN, "1;;5;0200000;;;;5;0;");
+                d.put(NODO, 5, 2, b"I");
+            },
+        ),
+        objects("ok-orientation-35959-and-59", OBJECTS_OK, |d| {
+            d.num(OB_PUN, 1, 6, 35959);
+            d.num(OB_TEX, 1, 7, 59);
+            d.num(OB_TEX, 1, 8, 1);
+        }),
+        objects("ok-orientation-35900-and-100", OBJECTS_OK, |d| {
+            d.num(OB_PUN, 1, 6, 100);
+            d.num(OB_TEX, 1, 7, 35900);
+            d.num(OB_TEX, 1, 8, 9);
+        }),
+        objects("ok-orientation-missing", OBJECTS_OK, |d| {
+            d.blank(OB_PUN, 1, &[6]);
+            d.blank(OB_TEX, 1, &[7]);
+        }),
     ]
 }

@@ -1,6 +1,7 @@
-//! Vertices, line ends, nodes and objects: reasons 50 to 57.
+//! Vertices, line ends, nodes and objects: reasons 50 to 58.
 
-use super::{rich, sort_line_20_as_text, Stated};
+use super::{alone, kinds, rich, s, sort_line_20_as_text, Stated};
+use crate::draft::Draft;
 use deliveries::{NODO, OB_LIN, OB_PUN, TRAMO, VERTICE};
 
 /// 50, VERTICE order is 0, or is over 1 and its line has no order one less.
@@ -215,7 +216,7 @@ pub(super) fn reason_55() -> Vec<Stated> {
     ]
 }
 
-/// 56, node starts or ends no tramo, has the X and Y of no vertex, and is named by no point object.
+/// 56, node starts or ends no tramo, has the X and Y of no vertex, and is named by fewer than two point objects.
 pub(super) fn reason_56() -> Vec<Stated> {
     vec![
         rich("r56-points-no-longer-name-it", "NO 56 7 00007 00", |d| {
@@ -244,6 +245,25 @@ pub(super) fn reason_56() -> Vec<Stated> {
             // a text and a centroid lie there
             d.add(NODO, "11;;0;0;");
         }),
+        rich(
+            "r56-one-of-two-points-names-the-node",
+            "NO 56 7 00007 00",
+            |d| {
+                d.blank(OB_PUN, 4, &[3]);
+                d.num(OB_PUN, 4, 9, 7);
+            },
+        ),
+        alone("r56-one-point-object-alone", "NO 56 7 00001 00", |d| {
+            d.lose(OB_PUN, &[2]);
+        }),
+        alone("r56-a-for-a-node-of-one-point", "NO 56 7 00001 00", |d| {
+            // the other lies there and names none; the code agrees all the same
+            d.blank(OB_PUN, 2, &[3]);
+            d.put(NODO, 1, 2, b"A");
+        }),
+        s("r56-before-58-at-one-node", "NO 56 7 00003 00", |d| {
+            d.add(NODO, "3;E;0;0;");
+        }),
     ]
 }
 
@@ -265,11 +285,102 @@ pub(super) fn reason_57() -> Vec<Stated> {
             // line 20 is still tramo 2's; object 3 is record 2
             d.lose(TRAMO, &[3, 4]);
         }),
-        rich("r57-before-52-53-54-56", "NO 57 4 00005 00", |d| {
+        rich("r57-before-52-53-54-56-58", "NO 57 4 00005 00", |d| {
+            // what the program grid is tried with: 57, 52, 53, and at nodes 58, 54 and 56
             d.add(OB_LIN, "20;;0100000;;;;");
             d.num(VERTICE, 14, 4, 101);
             d.num(VERTICE, 15, 4, 141);
+            d.put(NODO, 5, 2, b"H");
             d.add(NODO, "99;;500;500;12");
         }),
     ]
+}
+
+/// 58, a node's TIPO says another kind of node than it is: each code at each
+/// kind that it disagrees with, and then what makes a node what it is.
+pub(super) fn reason_58() -> Vec<Stated> {
+    vec![
+        kinds("r58-a-for-an-end", "NO 58 7 00001 02", |d| {
+            d.put(NODO, 1, 2, b"A");
+        }),
+        kinds("r58-a-for-an-intermediate-node", "NO 58 7 00005 02", |d| {
+            d.put(NODO, 5, 2, b"A");
+        }),
+        kinds("r58-a-for-a-node-that-is-both", "NO 58 7 00003 02", |d| {
+            d.put(NODO, 3, 2, b"A");
+        }),
+        alone("r58-c-for-an-isolated-node", "NO 58 7 00001 02", |d| {
+            d.put(NODO, 1, 2, b"C");
+        }),
+        alone("r58-e-for-an-isolated-node", "NO 58 7 00001 02", |d| {
+            d.put(NODO, 1, 2, b"E");
+        }),
+        kinds("r58-e-for-an-intermediate-node", "NO 58 7 00005 02", |d| {
+            d.put(NODO, 5, 2, b"E");
+        }),
+        kinds("r58-e-for-a-node-that-is-both", "NO 58 7 00003 02", |d| {
+            d.put(NODO, 3, 2, b"E");
+        }),
+        alone("r58-i-for-an-isolated-node", "NO 58 7 00001 02", |d| {
+            d.put(NODO, 1, 2, b"I");
+        }),
+        kinds("r58-i-for-an-end", "NO 58 7 00004 02", |d| {
+            d.put(NODO, 4, 2, b"I");
+        }),
+        kinds("r58-i-for-a-node-that-is-both", "NO 58 7 00003 02", |d| {
+            d.put(NODO, 3, 2, b"I");
+        }),
+        alone("r58-h-for-an-isolated-node", "NO 58 7 00001 02", |d| {
+            d.put(NODO, 1, 2, b"H");
+        }),
+        kinds("r58-h-for-an-end", "NO 58 7 00002 02", |d| {
+            d.put(NODO, 2, 2, b"H");
+        }),
+        kinds("r58-h-for-an-intermediate-node", "NO 58 7 00005 02", |d| {
+            d.put(NODO, 5, 2, b"H");
+        }),
+        kinds("r58-all-codes-exchanged", "NO 58 7 00001 02", |d| {
+            for (record, code) in [(1, b"I"), (2, b"H"), (3, b"E"), (4, b"A"), (5, b"E")] {
+                d.put(NODO, record, 2, code);
+            }
+        }),
+        kinds("r58-second-node-at-an-end", "NO 58 7 00006 02", |d| {
+            // no tramo names it, and yet it has the X and Y of line 1's first vertex
+            d.add(NODO, "6;A;0;0;9");
+        }),
+        s(
+            "r58-end-that-its-own-line-passes",
+            "NO 58 7 00001 02",
+            |d| {
+                pass_own_start(d);
+                d.put(NODO, 1, 2, b"E");
+            },
+        ),
+        s("r58-before-56-of-a-later-node", "NO 58 7 00002 02", |d| {
+            d.put(NODO, 2, 2, b"H");
+            d.add(NODO, "3;;0;0;");
+        }),
+        s("r57-before-58", "NO 57 4 00002 00", |d| {
+            d.add(OB_LIN, "2;;0100000;;;;");
+            d.put(NODO, 1, 2, b"A");
+        }),
+        s("r53-end-by-its-id-alone", "NO 53 5 00001 07", |d| {
+            // E agrees with node 2, which ends the tramo and lies elsewhere
+            d.num(NODO, 2, 4, 141);
+            d.put(NODO, 2, 2, b"E");
+        }),
+        s("r52-counted-from-0", "NO 52 5 00001 06", |d| {
+            // the vertex of order 0 is neither first nor last, so that node 1, which
+            // starts the tramo, is both
+            d.num(VERTICE, 1, 2, 0);
+            d.num(VERTICE, 2, 2, 1);
+            d.put(NODO, 1, 2, b"E");
+        }),
+    ]
+}
+
+/// S's line with a second vertex where its first is.
+pub(super) fn pass_own_start(d: &mut Draft) {
+    d.num(VERTICE, 2, 2, 3);
+    d.add(VERTICE, "1;2;100;200;");
 }
