@@ -59,8 +59,8 @@ pub enum Form {
     Size,
 }
 
-// What a field may say, where its bytes are sound: of a word anything, P, X, L or T, + or -, A, C, E, I or H; of a number anything, degrees
-// and minutes, 1 to 9.
+// What a field may say, where its bytes are sound: anything; of words P, X, L or T; + or -; A, C, E, I or H; of numbers degrees and
+// minutes; 1 to 9.
 pub enum Domain {
     Any,
     ObjectType,
