@@ -17,51 +17,39 @@ Inv-loop loose off-tips off-others few n marks₀ i₀ marks i = Marked marks₀
 abbrev μ-loop : tie.MeasureT-loop
 μ-loop loose off-tips off-others few n marks₀ i₀ marks i = n - i
 
--- src/sorts.rt:141:5
 loop-holds : tie.Need-loop-holds Inv-loop μ-loop
 loop-holds c = marked-start _ _
 
--- src/sorts.rt:143:14
 shared-slice-read-as-mark : tie.Need-shared-slice-read-as-mark Inv-loop μ-loop
 shared-slice-read-as-mark c = omega (arith, c .before .loop-test .taken, c .before .before .before .before .before .before .before .before .pre .0)
 
--- src/sorts.rt:143:32
 shared-slice-read-as-mark-2 : tie.Need-shared-slice-read-as-mark-2 Inv-loop μ-loop
 shared-slice-read-as-mark-2 c = omega (arith, c .before .before .loop-test .taken, c .before .before .before .before .before .before .before .before .before .pre .1)
 
--- src/sorts.rt:143:53
 shared-slice-read-as-mark-3 : tie.Need-shared-slice-read-as-mark-3 Inv-loop μ-loop
 shared-slice-read-as-mark-3 c = omega (arith, c .before .before .before .loop-test .taken, c .before .before .before .before .before .before .before .before .before .before .pre .2)
 
--- src/sorts.rt:143:76
 shared-slice-read-as-mark-4 : tie.Need-shared-slice-read-as-mark-4 Inv-loop μ-loop
 shared-slice-read-as-mark-4 c = omega (arith, c .before .before .before .before .loop-test .taken, c .before .before .before .before .before .before .before .before .before .before .before .pre .3)
 
--- src/sorts.rt:142:20
 as-mark-requires : tie.Need-as-mark-requires Inv-loop μ-loop
 as-mark-requires c κs = search needs
 
--- src/sorts.rt:142:9
 slice-write-marks : tie.Need-slice-write-marks Inv-loop μ-loop
 slice-write-marks c = omega (arith, c .before .before .before .before .before .before .loop .inv .long, c .before .before .before .before .before .loop-test .taken, c .before .before .before .before .before .before .before .before .before .before .before .before .pre .4)
 
--- src/sorts.rt:145:9
 add-i : tie.Need-add-i Inv-loop μ-loop
 add-i c = search needs
 
--- src/sorts.rt:141:5
 loop-less : tie.Need-loop-less Inv-loop μ-loop
 loop-less c = search needs
 
--- src/sorts.rt:141:5
 loop-again : tie.Need-loop-again Inv-loop μ-loop
 loop-again c = marked-more (omega (arith, c .before .before .before .before .before .before .loop .inv .long, c .before .before .before .before .before .loop-test .taken, c .before .before .before .before .before .before .before .before .before .before .before .before .pre .4)) (c .as-mark .ensures) (c .before .before .before .before .before .before .loop .inv)
 
--- src/sorts.rt:129:1
 same-length : tie.Need-same-length Inv-loop μ-loop
 same-length c = c .before .loop .inv .long
 
--- src/sorts.rt:129:1
 returns : tie.Need-returns Inv-loop μ-loop
 returns c = marked-end _ refl (c .loop-test .left) (c .before .loop .inv)
 

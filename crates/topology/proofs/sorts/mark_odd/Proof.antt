@@ -23,55 +23,42 @@ Inv-loop nodo loose off-tips off-others n marks₀ i₀ marks i = Marked marks�
 abbrev μ-loop : tie.MeasureT-loop
 μ-loop nodo loose off-tips off-others n marks₀ i₀ marks i = n - i
 
--- src/sorts.rt:162:5
 loop-holds : tie.Need-loop-holds Inv-loop μ-loop
 loop-holds c = marked-start _ _
 
--- src/sorts.rt:163:22
 shared-slice-read-end : tie.Need-shared-slice-read-end Inv-loop μ-loop
 shared-slice-read-end c = omega (arith, c .before .loop-test .taken, c .before .before .before .before .before .before .before .before .pre .0)
 
--- src/sorts.rt:163:40
 shared-slice-read-end-2 : tie.Need-shared-slice-read-end-2 Inv-loop μ-loop
 shared-slice-read-end-2 c = omega (arith, c .before .before .loop-test .taken, c .before .before .before .before .before .before .before .before .before .pre .1)
 
--- src/sorts.rt:164:22
 shared-slice-read-middle : tie.Need-shared-slice-read-middle Inv-loop μ-loop
 shared-slice-read-middle c = omega (arith, c .before .before .before .loop-test .taken, c .before .before .before .before .before .before .before .before .before .before .pre .2)
 
--- src/sorts.rt:165:40
 letter-requires : tie.Need-letter-requires Inv-loop μ-loop
 letter-requires c κs = search needs
 
--- src/sorts.rt:165:29
 does-agree-requires : tie.Need-does-agree-requires Inv-loop μ-loop
 does-agree-requires c κs = search needs
 
--- src/sorts.rt:165:20
 as-mark-requires : tie.Need-as-mark-requires Inv-loop μ-loop
 as-mark-requires c κs = search needs
 
--- src/sorts.rt:165:9
 slice-write-marks : tie.Need-slice-write-marks Inv-loop μ-loop
 slice-write-marks c = omega (arith, c .before .before .before .before .before .before .before .loop .inv .long, c .before .before .before .before .before .before .loop-test .taken, c .before .before .before .before .before .before .before .before .before .before .before .before .before .pre .3)
 
--- src/sorts.rt:166:9
 add-i : tie.Need-add-i Inv-loop μ-loop
 add-i c = search needs
 
--- src/sorts.rt:162:5
 loop-less : tie.Need-loop-less Inv-loop μ-loop
 loop-less c = search needs
 
--- src/sorts.rt:162:5
 loop-again : tie.Need-loop-again Inv-loop μ-loop
 loop-again c = marked-more (omega (arith, c .before .before .before .before .before .before .before .loop .inv .long, c .before .before .before .before .before .before .loop-test .taken, c .before .before .before .before .before .before .before .before .before .before .before .before .before .pre .3)) (odd-is _ _ (c .as-mark .ensures) (c .before .does-agree .ensures) (c .before .before .letter .ensures)) (c .before .before .before .before .before .before .before .loop .inv)
 
--- src/sorts.rt:150:1
 same-length : tie.Need-same-length Inv-loop μ-loop
 same-length c = c .before .loop .inv .long
 
--- src/sorts.rt:150:1
 returns : tie.Need-returns Inv-loop μ-loop
 returns c = marked-end _ refl (c .loop-test .left) (c .before .loop .inv)
 
