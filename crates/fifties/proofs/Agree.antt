@@ -9,11 +9,11 @@ use Rattle.record.specs.Files.{Delivery}
 use Rattle.record.specs.Names.{nameAt, keyOf}
 use Rattle.keys.specs.machinery.Groups.{Tests, Reasons, groupFinding, brokenBy, overFiles}
 use Rattle.keys.proofs.Agree.{Agrees, struck, struck-same}
-use Rattle.topology.specs.Rules.{placed, nodeIn, meets, breaks50, breaks51, startElsewhere, breaks52, endElsewhere, breaks53, samePlace, placedBefore, breaks54, pointElsewhere, breaks55, nodeUsed, breaks56, objectIdle, breaks57, breaks59, fifties, fiftyReasons}
+use Rattle.topology.specs.Rules.{placed, nodeIn, meets, breaks50, breaks51, startElsewhere, breaks52, endElsewhere, breaks53, samePlace, placedBefore, breaks54, pointElsewhere, breaks55, endsTramo, namers, nodeIdle, breaks56, objectIdle, breaks57, isTip, vertexWith, isEnd, isMiddle, disagrees, breaks58, breaks59, fifties, fiftyReasons}
 use Rattle.fifties.specs.machinery.Findings.{topologyIn, topologyFinding, topologyBroken}
 
 fifties-struck : (d : Delivery) → fifties (struck d) ≡ fifties d
-unfolding colAt isFreeWord nameAt keyOf placed nodeIn meets breaks50 breaks51 startElsewhere breaks52 endElsewhere breaks53 samePlace placedBefore breaks54 pointElsewhere breaks55 nodeUsed breaks56 objectIdle breaks57 breaks59 fifties
+unfolding colAt isFreeWord nameAt keyOf placed nodeIn meets breaks50 breaks51 startElsewhere breaks52 endElsewhere breaks53 samePlace placedBefore breaks54 pointElsewhere breaks55 endsTramo namers nodeIdle breaks56 objectIdle breaks57 isTip vertexWith isEnd isMiddle disagrees breaks58 breaks59 fifties
 fifties-struck d = refl
 
 reasons-struck : (d : Delivery) → fiftyReasons (struck d) ≡ fiftyReasons d

@@ -22,7 +22,7 @@ use Rattle.record.specs.Says.{Table}
 use Rattle.record.specs.Files.{Delivery}
 use Rattle.keys.specs.Rules.{orFirst}
 use Rattle.topology.specs.machinery.Places.{orIndex}
-use Rattle.topology.specs.Rules.{isAt, samePlace, breaks50, breaks51, breaks52, breaks53, breaks54, breaks55, breaks56, breaks57, breaks59, fifties, reasonsAt}
+use Rattle.topology.specs.Rules.{isAt, samePlace, breaks50, breaks51, breaks52, breaks53, breaks54, breaks55, breaks56, breaks57, breaks58, breaks59, fifties, reasonsAt}
 
 -- IN A LIST, whose first is number n: the default d stands at the number u, where it does at each number that u can be
 pub data Else {A : Type 0} (d : A) (u : ℕ) : ℕ → List A → Type 0 where
@@ -53,6 +53,7 @@ pub record Free (k : Kind) (f u : ℕ) : Type 0 where
   pub point : (isAt ObPun 3 k f && eqb u 5) ≡ false
   pub idle : (isAt Nodo 0 k f && eqb u 6) ≡ false
   pub object : (isAt ObLin 0 k f && eqb u 7) ≡ false
+  pub code : (isAt Nodo 2 k f && eqb u 8) ≡ false
   pub line : (isAt Tramo 4 k f && eqb u 9) ≡ false
 
 not-read : (b t : Bool) {u v : ℕ} → (b && eqb u v) ≡ false → u ≡ v → (b && t) ≡ false
@@ -60,7 +61,7 @@ not-read true t {u} {v} h e = absurd (true-false (sym (eq-eqb u v e) ∙ h))
 not-read false t h e = refl
 
 pub free-tests : (d : Delivery) {k : Kind} (i : ℕ) {f u : ℕ} → Free k f u → Else false u 0 (fifties d k i f)
-unfolding breaks50 breaks51 breaks52 breaks53 breaks54 breaks55 breaks56 breaks57 breaks59 fifties
+unfolding breaks50 breaks51 breaks52 breaks53 breaks54 breaks55 breaks56 breaks57 breaks58 breaks59 fifties
 free-tests d {k} i {f} o =
     past (not-read (isAt Vertice 2 k f) _ (o .gap))
     (past (not-read (isAt Vertice 2 k f) _ (o .alone))
@@ -70,7 +71,7 @@ free-tests d {k} i {f} o =
     (past (not-read (isAt ObPun 3 k f) _ (o .point))
     (past (not-read (isAt Nodo 0 k f) _ (o .idle))
     (past (not-read (isAt ObLin 0 k f) _ (o .object))
-    (plain
+    (past (not-read (isAt Nodo 2 k f) _ (o .code))
     (past (not-read (isAt Tramo 4 k f) _ (o .line)) end)))))))))
 
 -- THE REASONS
@@ -91,10 +92,11 @@ module _ (nodes : Table) (i u : ℕ) where
       → SamePlace54 (x + 1) ≡ getD (reasonsAt nodes i) u LongFile10
   reason-54 e q h = rw (e, h, q, first-index, add-one)
 
-  pub reason-else : NoneOf (9 ∷ 7 ∷ 6 ∷ 5 ∷ 4 ∷ 3 ∷ 2 ∷ 1 ∷ 0 ∷ []) u → LongFile10 ≡ getD (reasonsAt nodes i) u LongFile10
+  pub reason-else : NoneOf (9 ∷ 8 ∷ 7 ∷ 6 ∷ 5 ∷ 4 ∷ 3 ∷ 2 ∷ 1 ∷ 0 ∷ []) u → LongFile10 ≡ getD (reasonsAt nodes i) u LongFile10
   reason-else o =
       sym
       (else-default
+      (other (o .0 .0 .0 .0 .0 .0 .0 .0 .0 .1)
       (other (o .0 .0 .0 .0 .0 .0 .0 .0 .1)
       (other (o .0 .0 .0 .0 .0 .0 .0 .1)
       (other (o .0 .0 .0 .0 .0 .0 .1)
@@ -103,7 +105,6 @@ module _ (nodes : Table) (i u : ℕ) where
       (other (o .0 .0 .0 .1)
       (other (o .0 .0 .1)
       (other (o .0 .1)
-      (plain
       (other (o .1) end)))))))))))
 
 -- A CELL c that is not the one of field f and reason u
@@ -127,6 +128,7 @@ free-vertice c a b =
       point = refl;
       idle = refl;
       object = refl;
+      code = refl;
       line = refl;
     }
 
@@ -141,11 +143,12 @@ free-tramo c a b e =
       point = refl;
       idle = refl;
       object = refl;
+      code = refl;
       line = not-cell c 4 9 a;
     }
 
-pub free-nodo : (c : ℕ) → (c ≡ 4 → ⊥) → (c ≡ 6 → ⊥) → Free Nodo (c / 10) (c % 10)
-free-nodo c a b =
+pub free-nodo : (c : ℕ) → (c ≡ 4 → ⊥) → (c ≡ 6 → ⊥) → (c ≡ 28 → ⊥) → Free Nodo (c / 10) (c % 10)
+free-nodo c a b e =
     record {
       gap = refl;
       alone = refl;
@@ -155,6 +158,7 @@ free-nodo c a b =
       point = refl;
       idle = not-cell c 0 6 b;
       object = refl;
+      code = not-cell c 2 8 e;
       line = refl;
     }
 
@@ -169,6 +173,7 @@ free-ob-pun c a =
       point = not-cell c 3 5 a;
       idle = refl;
       object = refl;
+      code = refl;
       line = refl;
     }
 
@@ -183,13 +188,14 @@ free-ob-lin c a =
       point = refl;
       idle = refl;
       object = not-cell c 0 7 a;
+      code = refl;
       line = refl;
     }
 
 pub free-catalogo : (c : ℕ) → Free Catalogo (c / 10) (c % 10)
 free-catalogo c =
-    record { gap = refl; alone = refl; start = refl; last = refl; place = refl; point = refl; idle = refl; object = refl; line = refl }
+    record { gap = refl; alone = refl; start = refl; last = refl; place = refl; point = refl; idle = refl; object = refl; code = refl; line = refl }
 
 pub free-ob-tex : (c : ℕ) → Free ObTex (c / 10) (c % 10)
 free-ob-tex c =
-    record { gap = refl; alone = refl; start = refl; last = refl; place = refl; point = refl; idle = refl; object = refl; line = refl }
+    record { gap = refl; alone = refl; start = refl; last = refl; place = refl; point = refl; idle = refl; object = refl; code = refl; line = refl }

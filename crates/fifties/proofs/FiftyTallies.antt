@@ -33,7 +33,7 @@ use Rattle.fifties.specs.machinery.Cells.{fiftyTally, fiftyTallies}
 use Rattle.topology.specs.machinery.Ends.{apartAt, apart, astrayAt}
 use Rattle.topology.specs.machinery.Places.{Positions}
 use Rattle.topology.specs.declared.ends.End.the-variants.{Start, Last}
-use Rattle.topology.specs.Rules.{gap, unpaired, highestIn, highest, tramoLine, tramoStart, tramoEnd, placedBefore, pointElsewhere, nodeUsed, objectIdle, breaks50, breaks51, breaks52, breaks53, breaks54, breaks55, breaks56, breaks57, breaks59, fifties, fiftyReasons}
+use Rattle.topology.specs.Rules.{gap, unpaired, highestIn, highest, tramoLine, tramoStart, tramoEnd, placedBefore, pointElsewhere, nodeIdle, objectIdle, disagrees, breaks50, breaks51, breaks52, breaks53, breaks54, breaks55, breaks56, breaks57, breaks58, breaks59, fifties, fiftyReasons}
 use Rattle.fifties.specs.machinery.Findings.{topologyIn}
 use Rattle.topology.proofs.EndLaws.{endless-marks, apart-marks, astray-marks}
 use Rattle.fifties.proofs.FiftyLaws.{Free, else-default, free-tests, free-vertice, free-tramo, free-nodo, free-ob-pun, free-ob-lin, free-catalogo, free-ob-tex}
@@ -132,21 +132,29 @@ module _ (d : Delivery) where
       to-end d ObLin 8 (omega arith) (λ c l. free-ob-lin c (λ q. omega arith))
       (to-cell d ObLin 0 0 7 e (omega arith) (omega arith) (λ c _ l. free-ob-lin c (λ q. omega arith)) (from-none d ObLin z) m w)
 
-  -- NODO: 54 and 56
+  -- NODO: 54, 56 and 58
   pub places-tally :
       {t r : Tally} {before marks : List ℕ} {n : ℕ} → n ≡ d Nodo .count → t ≡ noTally
       → Marked before marks (placedBefore (d Nodo)) (d Nodo .count) → Next t marks n 4 r → TalliedTo (fifties d Nodo) (d Nodo .count) 5 r
   unfolding fifties breaks54
-  places-tally e z m w = to-cell d Nodo 0 0 4 e (omega arith) (omega arith) (λ c _ l. free-nodo c (λ q. omega arith) (λ q. omega arith)) (from-none d Nodo z) m w
+  places-tally e z m w =
+      to-cell d Nodo 0 0 4 e (omega arith) (omega arith) (λ c _ l. free-nodo c (λ q. omega arith) (λ q. omega arith) (λ q. omega arith)) (from-none d Nodo z) m w
+
+  pub idle-tally :
+      {t r : Tally} {before marks : List ℕ} {n : ℕ} → n ≡ d Nodo .count → TalliedTo (fifties d Nodo) (d Nodo .count) 5 t
+      → Marked before marks (nodeIdle (d ObPun) (d Tramo) (d Vertice) (d Nodo)) (d Nodo .count) → Next t marks n 6 r
+      → TalliedTo (fifties d Nodo) (d Nodo .count) 7 r
+  unfolding fifties breaks56
+  idle-tally e b m w =
+      to-cell d Nodo 5 0 6 e (omega arith) (omega arith) (λ c u l. free-nodo c (λ q. omega arith) (λ q. omega arith) (λ q. omega arith)) b m w
 
   pub nodes-tally :
-      {t r : Tally} {before marks : List ℕ} {n : ℕ} → n ≡ d Nodo .count → TalliedTo (fifties d Nodo) (d Nodo .count) 5 t
-      → Marked before marks (λ i. not (nodeUsed (d ObPun) (d Tramo) (d Vertice) (d Nodo) i)) (d Nodo .count) → Next t marks n 6 r
-      → r ≡ fiftyTally d Nodo
-  unfolding fifties breaks56
+      {t r : Tally} {before marks : List ℕ} {n : ℕ} → n ≡ d Nodo .count → TalliedTo (fifties d Nodo) (d Nodo .count) 7 t
+      → Marked before marks (disagrees (d Tramo) (d Vertice) (d Nodo)) (d Nodo .count) → Next t marks n 28 r → r ≡ fiftyTally d Nodo
+  unfolding fifties breaks58
   nodes-tally e b m w =
-      to-end d Nodo 7 (omega arith) (λ c l. free-nodo c (λ q. omega arith) (λ q. omega arith))
-      (to-cell d Nodo 5 0 6 e (omega arith) (omega arith) (λ c u l. free-nodo c (λ q. omega arith) (λ q. omega arith)) b m w)
+      to-end d Nodo 29 (omega arith) (λ c l. free-nodo c (λ q. omega arith) (λ q. omega arith) (λ q. omega arith))
+      (to-cell d Nodo 7 2 8 e (omega arith) (omega arith) (λ c u l. free-nodo c (λ q. omega arith) (λ q. omega arith) (λ q. omega arith)) b m w)
 
 -- THE SAME of the files' bytes, as the code has them in hand
 module _ (files : Files) where
@@ -196,12 +204,18 @@ module _ (files : Files) where
       → TalliedTo (fifties del Nodo) (del Nodo .count) 5 r
   places-in a q z m w = places-tally del q z (rw a at m) w
 
-  pub nodes-in :
-      {points tramos vertices nodes : List ℕ} → points ≡ files ObPun → tramos ≡ files Tramo → vertices ≡ files Vertice → nodes ≡ files Nodo
-      → {t r : Tally} {before marks : List ℕ} {n : ℕ} → n ≡ del Nodo .count → TalliedTo (fifties del Nodo) (del Nodo .count) 5 t
-      → Marked before marks (λ i. not (nodeUsed (tableOf points ObPun) (tableOf tramos Tramo) (tableOf vertices Vertice) (tableOf nodes Nodo) i)) (tableOf nodes Nodo .count)
-      → Next t marks n 6 r → r ≡ fiftyTally del Nodo
-  nodes-in a b c e q z m w = nodes-tally del q z (rw (a, b, c, e) at m) w
+  module _ {points tramos vertices nodes : List ℕ} (a : points ≡ files ObPun) (b : tramos ≡ files Tramo) (c : vertices ≡ files Vertice) (e : nodes ≡ files Nodo) where
+    pub idle-in :
+        {t r : Tally} {before marks : List ℕ} {n : ℕ} → n ≡ del Nodo .count → TalliedTo (fifties del Nodo) (del Nodo .count) 5 t
+        → Marked before marks (nodeIdle (tableOf points ObPun) (tableOf tramos Tramo) (tableOf vertices Vertice) (tableOf nodes Nodo)) (tableOf nodes Nodo .count)
+        → Next t marks n 6 r → TalliedTo (fifties del Nodo) (del Nodo .count) 7 r
+    idle-in q z m w = idle-tally del q z (rw (a, b, c, e) at m) w
+
+    pub nodes-in :
+        {t r : Tally} {before marks : List ℕ} {n : ℕ} → n ≡ del Nodo .count → TalliedTo (fifties del Nodo) (del Nodo .count) 7 t
+        → Marked before marks (disagrees (tableOf tramos Tramo) (tableOf vertices Vertice) (tableOf nodes Nodo)) (tableOf nodes Nodo .count)
+        → Next t marks n 28 r → r ≡ fiftyTally del Nodo
+    nodes-in q z m w = nodes-tally del q z (rw (b, c, e) at m) w
 
 module _ (d : Delivery) where
   -- CATALOGO and OB_TEX have no rule of the fifties

@@ -21,18 +21,14 @@ use Rattle.keys.proofs.Shown.{ShownBy, group-shown}
 use Rattle.topology.specs.Rules.{fifties, fiftyReasons}
 use Rattle.fifties.specs.machinery.Findings.{topologyIn, topologyTests, topologyBroken}
 
--- each reason has its number, but at 58's place, which has no test
-fifty-all : (d : Delivery) (k : Kind) (i f : ℕ) → any (λ u. not (eqb (numberOf (getD (fiftyReasons d k i f) u LongFile10)) (pick (eqb u 8) 10 (50 + u)))) 10 ≡ false
+-- each reason has its number
+fifty-all : (d : Delivery) (k : Kind) (i f : ℕ) → any (λ u. not (eqb (numberOf (getD (fiftyReasons d k i f) u LongFile10)) (50 + u))) 10 ≡ false
 unfolding fiftyReasons any firstIndex firstOf
 fifty-all d k i f = refl
 
 fifty-numbered : (d : Delivery) (k : Kind) → Numbered 5 (topologyTests d k) (fiftyReasons d k) k (d k .count)
 unfolding fifties
-fifty-numbered d k i f u l e = eqb-true _ _ (not-false _ (any-no _ 10 (fifty-all d k i f) l)) ∙ go (eqb u 8) refl
-  where
-    go : (b : Bool) → eqb u 8 ≡ b → pick b 10 (50 + u) ≡ 50 + u
-    go true h = absurd (true-false (sym (rw (eqb-true u 8 h) at e)))
-    go false h = refl
+fifty-numbered d k i f u l e = eqb-true _ _ (not-false _ (any-no _ 10 (fifty-all d k i f) l))
 
 pub topology-means : (d : Delivery) (k : Kind) → MeansBy (topologyBroken d k) 5 k (topologyIn d k)
 unfolding topologyIn topologyBroken

@@ -58,10 +58,10 @@ fn tally_files<'a>(
     a_hints: &mut [u16],
     a_order: &mut [usize],
     named: &mut [u8],
-    used: &mut [u8],
+    tips: &mut [u8],
     marks: &mut [u8],
 ) -> [Tally; FILES]
-    requires { ⌜ ((k : Kind) → deliveryOf (filesOf (map now files)) k .count ≤ most) × (most ≤ length (now keys)) × (most ≤ length (now «key_order»)) × (most ≤ length (now ids)) × (most ≤ length (now «id_order»)) × (most ≤ length (now nx)) × (most ≤ length (now ny)) × (most ≤ length (now a)) × (most ≤ length (now b)) × (most ≤ length (now c)) × (most ≤ length (now d)) × (most ≤ length (now e)) × (most ≤ length (now «a_order»)) × (most ≤ length (now used)) × (most ≤ length (now marks)) × (most ≤ length (now named)) ⌝ }
+    requires { ⌜ ((k : Kind) → deliveryOf (filesOf (map now files)) k .count ≤ most) × (most ≤ limit) × (most ≤ length (now keys)) × (most ≤ length (now «key_order»)) × (most ≤ length (now ids)) × (most ≤ length (now «id_order»)) × (most ≤ length (now nx)) × (most ≤ length (now ny)) × (most ≤ length (now a)) × (most ≤ length (now b)) × (most ≤ length (now c)) × (most ≤ length (now d)) × (most ≤ length (now e)) × (most ≤ length (now «a_order»)) × (most ≤ length (now tips)) × (most ≤ length (now marks)) × (most ≤ length (now named)) ⌝ }
     ensures { λ r. ⌜ r ≡ fiftyTallies (deliveryOf (filesOf (map now (files .entry)))) ⌝ }
 {
     let nodo = file_of(files, Kind::Nodo);
@@ -89,6 +89,7 @@ fn tally_files<'a>(
         c,
         d,
         e,
+        tips,
         named,
         marks,
     );
@@ -116,7 +117,7 @@ fn tally_files<'a>(
         key_hints,
         key_order,
         named,
-        used,
+        tips,
         marks,
     )
 }
@@ -142,7 +143,7 @@ fn tally_few<'a>(files: [&'a [u8]; FILES]) -> [Tally; FILES]
     let mut a_hints = [0u16; FEW_HINTS];
     let mut a_order = [0usize; FEW];
     let mut named = [0u8; FEW];
-    let mut used = [0u8; FEW];
+    let mut tips = [0u8; FEW];
     let mut marks = [0u8; FEW];
     tally_files(
         files,
@@ -163,7 +164,7 @@ fn tally_few<'a>(files: [&'a [u8]; FILES]) -> [Tally; FILES]
         &mut a_hints,
         &mut a_order,
         &mut named,
-        &mut used,
+        &mut tips,
         &mut marks,
     )
 }
@@ -188,7 +189,7 @@ fn tally_many<'a>(files: [&'a [u8]; FILES]) -> [Tally; FILES]
     let mut a_hints = [0u16; HINTS];
     let mut a_order = [0usize; LIMIT];
     let mut named = [0u8; LIMIT];
-    let mut used = [0u8; LIMIT];
+    let mut tips = [0u8; LIMIT];
     let mut marks = [0u8; LIMIT];
     tally_files(
         files,
@@ -209,7 +210,7 @@ fn tally_many<'a>(files: [&'a [u8]; FILES]) -> [Tally; FILES]
         &mut a_hints,
         &mut a_order,
         &mut named,
-        &mut used,
+        &mut tips,
         &mut marks,
     )
 }
@@ -249,6 +250,7 @@ fn reason_in(u: usize, i: usize, nodo: &[u8]) -> Reason
         5 => Reason::PointElsewhere55,
         6 => Reason::IdleNode56,
         7 => Reason::IdleObject57,
+        8 => Reason::NodeType58,
         9 => Reason::NoLastVertex59,
         _ => Reason::LongFile10,
     }

@@ -27,9 +27,10 @@ ghost use Rattle.record.specs.Files.{filesOf, deliveryOf};
 ghost use Rattle.record.specs.Names.{nameAt, keyOf};
 ghost use Rattle.record.specs.machinery.Columns.{Fills};
 ghost use Rattle.fifties.specs.machinery.Cells.{fiftyTally};
+ghost use Rattle.topology.specs.machinery.Nodes.{Tips};
 ghost use Rattle.topology.specs.machinery.Places.{Positions};
-ghost use Rattle.topology.specs.machinery.Used.{Used, isEnd};
-ghost use Rattle.topology.specs.Rules.{highestIn, tramoLine, tramoStart, tramoEnd};
+ghost use Rattle.topology.specs.machinery.Used.{Used};
+ghost use Rattle.topology.specs.Rules.{highestIn, tramoLine, tramoStart, tramoEnd, endsTramo};
 
 // 50 and 51, of the vertices, with their keys in hand.
 fn tally_vertices<'a, 'b>(
@@ -77,7 +78,7 @@ fn tally_ends<'a, 'b>(
 ) -> Tally
     requires { ⌜ Ready (now keys) (now order) (now vertices) n way × Fills (now keys) (keyOf Kind.Vertice (deliveryOf (filesOf (map now files)) Kind.Vertice)) (deliveryOf (filesOf (map now files)) Kind.Vertice .count) n × Ready (now ids) (now ranks) (now nodes) m by × Fills (now ids) (λ j. nameAt Kind.Nodo (deliveryOf (filesOf (map now files)) Kind.Nodo) j 1) (deliveryOf (filesOf (map now files)) Kind.Nodo .count) m × Positions (now vx) (now vy) Kind.Vertice (deliveryOf (filesOf (map now files)) Kind.Vertice) n × Positions (now nx) (now ny) Kind.Nodo (deliveryOf (filesOf (map now files)) Kind.Nodo) m × Fills (now ends) (λ i. highestIn (listed (now keys)) (tramoLine (deliveryOf (filesOf (map now files)) Kind.Tramo) i) n) (deliveryOf (filesOf (map now files)) Kind.Tramo .count) t × Fills (now starts) (tramoStart (deliveryOf (filesOf (map now files)) Kind.Tramo)) (deliveryOf (filesOf (map now files)) Kind.Tramo .count) t × Fills (now lasts) (tramoEnd (deliveryOf (filesOf (map now files)) Kind.Tramo)) (deliveryOf (filesOf (map now files)) Kind.Tramo .count) t × (t ≤ length (now marks)) × (m ≤ length (now named)) ⌝ }
     ensures { λ r. ⌜ r ≡ fiftyTally (deliveryOf (filesOf (map now (files .entry)))) Kind.Tramo ⌝ }
-    ensures held { λ _. ⌜ Used (now (ids .entry)) (now (ranks .entry)) (now (nodes .entry)) (by .hinted) m (now (named .entry)) (now (named .exit)) (isEnd (deliveryOf (filesOf (map now (files .entry))) Kind.Tramo)) ⌝ }
+    ensures held { λ _. ⌜ Used (now (ids .entry)) (now (ranks .entry)) (now (nodes .entry)) (by .hinted) m (now (named .entry)) (now (named .exit)) (endsTramo (deliveryOf (filesOf (map now (files .entry))) Kind.Tramo)) ⌝ }
 {
     let vertice = file_of(files, Kind::Vertice);
     let nodo = file_of(files, Kind::Nodo);
@@ -158,15 +159,17 @@ fn tally_tramos<'a, 'b>(
     vx: &mut [u64],
     vy: &mut [u64],
     ends: &mut [u64],
+    tips: &mut [u8],
     named: &mut [u8],
     marks: &mut [u8],
 ) -> Tally
-    requires { ⌜ Ready (now keys) (now order) (now vertices) n way × Fills (now keys) (keyOf Kind.Vertice (deliveryOf (filesOf (map now files)) Kind.Vertice)) (deliveryOf (filesOf (map now files)) Kind.Vertice .count) n × Ready (now ids) (now ranks) (now nodes) m by × Fills (now ids) (λ j. nameAt Kind.Nodo (deliveryOf (filesOf (map now files)) Kind.Nodo) j 1) (deliveryOf (filesOf (map now files)) Kind.Nodo .count) m × Positions (now nx) (now ny) Kind.Nodo (deliveryOf (filesOf (map now files)) Kind.Nodo) m × ((k : Kind) → deliveryOf (filesOf (map now files)) k .count ≤ most) × (most ≤ length (now a)) × (most ≤ length (now «a_order»)) × (most ≤ length (now b)) × (most ≤ length (now vx)) × (most ≤ length (now vy)) × (most ≤ length (now ends)) × (most ≤ length (now marks)) × (m ≤ length (now named)) ⌝ }
+    requires { ⌜ Ready (now keys) (now order) (now vertices) n way × Fills (now keys) (keyOf Kind.Vertice (deliveryOf (filesOf (map now files)) Kind.Vertice)) (deliveryOf (filesOf (map now files)) Kind.Vertice .count) n × Ready (now ids) (now ranks) (now nodes) m by × Fills (now ids) (λ j. nameAt Kind.Nodo (deliveryOf (filesOf (map now files)) Kind.Nodo) j 1) (deliveryOf (filesOf (map now files)) Kind.Nodo .count) m × Positions (now nx) (now ny) Kind.Nodo (deliveryOf (filesOf (map now files)) Kind.Nodo) m × ((k : Kind) → deliveryOf (filesOf (map now files)) k .count ≤ most) × (most ≤ length (now a)) × (most ≤ length (now «a_order»)) × (most ≤ length (now b)) × (most ≤ length (now vx)) × (most ≤ length (now vy)) × (most ≤ length (now ends)) × (most ≤ length (now tips)) × (most ≤ length (now marks)) × (m ≤ length (now named)) ⌝ }
     ensures { λ r. ⌜ r ≡ fiftyTally (deliveryOf (filesOf (map now (files .entry)))) Kind.Tramo ⌝ }
-    ensures held { λ _. ⌜ Used (now (ids .entry)) (now (ranks .entry)) (now (nodes .entry)) (by .hinted) m (now (named .entry)) (now (named .exit)) (isEnd (deliveryOf (filesOf (map now (files .entry))) Kind.Tramo)) ⌝ }
+    ensures held { λ _. ⌜ Used (now (ids .entry)) (now (ranks .entry)) (now (nodes .entry)) (by .hinted) m (now (named .entry)) (now (named .exit)) (endsTramo (deliveryOf (filesOf (map now (files .entry))) Kind.Tramo)) ⌝ }
+    ensures tipped { λ _. ⌜ Tips (now (tips .exit)) (deliveryOf (filesOf (map now (files .entry))) Kind.Vertice) ⌝ }
 {
     let tramo = file_of(files, Kind::Tramo);
-    let t = prepare_ends(tramo, keys, n, a, a_hints, a_order, b, vx, ends);
+    let t = prepare_ends(tramo, keys, n, a, a_hints, a_order, b, vx, tips, ends);
     fill_positions(file_of(files, Kind::Vertice), Kind::Vertice, most, vx, vy);
     fill_names(tramo, Kind::Tramo, 6, a);
     fill_names(tramo, Kind::Tramo, 7, b);
@@ -223,13 +226,15 @@ pub(crate) fn tally_lines<'a, 'b>(
     c: &mut [u64],
     d: &mut [u64],
     e: &mut [u64],
+    tips: &mut [u8],
     named: &mut [u8],
     marks: &mut [u8],
 ) -> Lines
-    requires { ⌜ Ready (now ids) (now ranks) (now nodes) m by × Fills (now ids) (λ j. nameAt Kind.Nodo (deliveryOf (filesOf (map now files)) Kind.Nodo) j 1) (deliveryOf (filesOf (map now files)) Kind.Nodo .count) m × Positions (now nx) (now ny) Kind.Nodo (deliveryOf (filesOf (map now files)) Kind.Nodo) m × ((k : Kind) → deliveryOf (filesOf (map now files)) k .count ≤ most) × (most ≤ length (now keys)) × (most ≤ length (now «key_order»)) × (most ≤ length (now a)) × (most ≤ length (now «a_order»)) × (most ≤ length (now b)) × (most ≤ length (now c)) × (most ≤ length (now d)) × (most ≤ length (now e)) × (most ≤ length (now marks)) × (m ≤ length (now named)) ⌝ }
+    requires { ⌜ Ready (now ids) (now ranks) (now nodes) m by × Fills (now ids) (λ j. nameAt Kind.Nodo (deliveryOf (filesOf (map now files)) Kind.Nodo) j 1) (deliveryOf (filesOf (map now files)) Kind.Nodo .count) m × Positions (now nx) (now ny) Kind.Nodo (deliveryOf (filesOf (map now files)) Kind.Nodo) m × ((k : Kind) → deliveryOf (filesOf (map now files)) k .count ≤ most) × (most ≤ length (now keys)) × (most ≤ length (now «key_order»)) × (most ≤ length (now a)) × (most ≤ length (now «a_order»)) × (most ≤ length (now b)) × (most ≤ length (now c)) × (most ≤ length (now d)) × (most ≤ length (now e)) × (most ≤ length (now tips)) × (most ≤ length (now marks)) × (m ≤ length (now named)) ⌝ }
     ensures { λ r. ⌜ r .tramos ≡ fiftyTally (deliveryOf (filesOf (map now (files .entry)))) Kind.Tramo ⌝ }
     ensures others { λ r. ⌜ r .vertices ≡ fiftyTally (deliveryOf (filesOf (map now (files .entry)))) Kind.Vertice ⌝ }
-    ensures held { λ _. ⌜ Used (now (ids .entry)) (now (ranks .entry)) (now (nodes .entry)) (by .hinted) m (now (named .entry)) (now (named .exit)) (isEnd (deliveryOf (filesOf (map now (files .entry))) Kind.Tramo)) ⌝ }
+    ensures held { λ _. ⌜ Used (now (ids .entry)) (now (ranks .entry)) (now (nodes .entry)) (by .hinted) m (now (named .entry)) (now (named .exit)) (endsTramo (deliveryOf (filesOf (map now (files .entry))) Kind.Tramo)) ⌝ }
+    ensures tipped { λ _. ⌜ Tips (now (tips .exit)) (deliveryOf (filesOf (map now (files .entry))) Kind.Vertice) ⌝ }
 {
     let n = fill_keys(file_of(files, Kind::Vertice), Kind::Vertice, keys);
     let way = prepare(keys, n, key_hints, key_order);
@@ -255,6 +260,7 @@ pub(crate) fn tally_lines<'a, 'b>(
         c,
         d,
         e,
+        tips,
         named,
         marks,
     );

@@ -2,6 +2,7 @@
 -- Assumes nothing.
 use mathlib.Core.List.{[], map}
 use mathlib.Core.Path.{_≡_, refl}
+use Rattle.laws.specs.Count.{howMany}
 use Rattle.laws.specs.Find.{firstOf, firstIndex, any}
 use Rattle.laws.specs.Nest.{run}
 use Rattle.laws.specs.Row.{row, each}
@@ -23,7 +24,7 @@ use Rattle.record.specs.Names.{nameAt, keyOf}
 use Rattle.keys.specs.Rules.{repeats, breaks30, dangles, breaks40, typedIn, mistyped, breaks41, keyTests, keyReasons}
 use Rattle.keys.specs.machinery.Findings.{keysIn, keysFinding}
 use Rattle.keys.specs.machinery.Groups.{cellBreak, groupFinding, overFiles}
-use Rattle.topology.specs.Rules.{placed, nodeIn, highestIn, meets, gap, breaks50, unpaired, breaks51, startElsewhere, breaks52, endElsewhere, breaks53, samePlace, placedBefore, breaks54, pointElsewhere, breaks55, nodeUsed, breaks56, objectIdle, breaks57, breaks59, fifties, fiftyReasons}
+use Rattle.topology.specs.Rules.{placed, nodeIn, highestIn, meets, gap, breaks50, unpaired, breaks51, startElsewhere, breaks52, endElsewhere, breaks53, samePlace, placedBefore, breaks54, pointElsewhere, breaks55, endsTramo, namers, nodeIdle, breaks56, objectIdle, breaks57, isTip, vertexWith, isEnd, isMiddle, agrees, disagrees, breaks58, breaks59, fifties, fiftyReasons}
 use Rattle.fifties.specs.machinery.Findings.{topologyIn, topologyFinding}
 use Rattle.judge.specs.Broken.{saidTests, testsOf, reasonOf, breaksIn, breaksOf, breaks, countsOf}
 use Rattle.judge.specs.Verdict.{judged, verdictOf}
@@ -39,7 +40,7 @@ unfolding
     valueAt valuesSay valueOf joined refuses62 badText refuses63 blankAt partnersMissing refuses64 refuses65 valueBreaks valuesFinding answerIn
     nameAt keyOf targetOf repeats breaks30 dangles breaks40 typedIn mistyped breaks41 keyTests keyReasons cellBreak groupFinding overFiles keysIn keysFinding
     placed nodeIn highestIn meets gap breaks50 unpaired breaks51 startElsewhere breaks52 endElsewhere breaks53 samePlace placedBefore breaks54
-    pointElsewhere breaks55 nodeUsed breaks56 objectIdle breaks57 breaks59 fifties fiftyReasons topologyIn topologyFinding
+    pointElsewhere breaks55 endsTramo howMany namers nodeIdle breaks56 objectIdle breaks57 isTip vertexWith isEnd isMiddle agrees disagrees breaks58 breaks59 fifties fiftyReasons topologyIn topologyFinding
     saidTests testsOf reasonOf breaksIn breaksOf breaks judged countsOf verdictOf
 cases = refl
 

@@ -8,7 +8,7 @@ use mathlib.Core.List.{[]}
 use mathlib.Core.Path.{_≡_, refl, ap, ap₂, _∙_}
 use native.Mathlib.Decide.{ℕ-discrete}
 use native.Mathlib.Omega.{arith}
-use lib.Dec.{leb, eqb}
+use lib.Dec.{leb, eqb, ltb}
 use lib.ListN.{getD}
 use borrow.Author.Tests.{leb-true, eqb-true, eq-eqb, ne-eqb}
 use Rattle.laws.specs.Find.{any, names}
@@ -16,7 +16,7 @@ use Rattle.laws.specs.Count.{howMany}
 use Rattle.laws.specs.Row.{pick, each}
 use Rattle.laws.proofs.RowLaws.{and-true, then-false, and-last, picked, end, more, falses}
 use Rattle.laws.proofs.Turns.{Turn, any-turn}
-use Rattle.laws.proofs.CountLaws.{Alike, alike-by, alike-both, again-turn, count-none, count-no, count-under}
+use Rattle.laws.proofs.CountLaws.{Alike, alike-by, alike-both, again-turn, count-none, count-no, count-under, count-turn}
 use Rattle.record.specs.declared.kind.Kind.{Kind}
 use Rattle.record.specs.declared.kind.Kind.the-variants.{Catalogo, ObPun, ObLin, Tramo, Vertice, Nodo}
 use Rattle.record.specs.Table.{Col, whole, cols, colAt, fieldsOf, fileOf, keysOf, targetOf}
@@ -28,7 +28,7 @@ use Rattle.record.specs.Files.{Delivery}
 use Rattle.record.specs.Names.{nameAt, vertexKey, keyOf}
 use Rattle.keys.specs.Rules.{repeats, breaks30, dangles, danglesTo, breaks40, typedIn, mistyped, breaks41, keyTests}
 use Rattle.keys.specs.machinery.Findings.{keysBroken}
-use Rattle.topology.specs.Rules.{xAt, yAt, zAt, isAt, placed, nodeIn, hasVertex, highestIn, highest, meets, elsewhere, tramoLine, gap, breaks50, unpaired, breaks51, startElsewhere, breaks52, endElsewhere, breaks53, samePlace, placedBefore, breaks54, pointElsewhere, breaks55, nodeUsed, breaks56, objectIdle, breaks57, breaks59, fifties}
+use Rattle.topology.specs.Rules.{xAt, yAt, zAt, isAt, placed, nodeIn, hasVertex, highestIn, highest, meets, elsewhere, tramoLine, gap, breaks50, unpaired, breaks51, startElsewhere, breaks52, endElsewhere, breaks53, samePlace, placedBefore, breaks54, pointElsewhere, breaks55, endsTramo, namers, nodeIdle, breaks56, objectIdle, breaks57, isTip, vertexWith, isEnd, isMiddle, disagrees, breaks58, breaks59, fifties}
 use Rattle.fifties.specs.machinery.Findings.{topologyTests, topologyBroken}
 use Rattle.judge.proofs.NoneBroken.{NoTest, none-tests, tests-none}
 use Rattle.judge.proofs.Turns.{highest-turn}
@@ -235,13 +235,48 @@ module _ (d e : Delivery) (r : Rearranged d e) where
   unfolding placed
   placed-there x y = any-there Vertice _ _ (λ j l. rw (r .says Vertice j 4 l (omega arith), r .says Vertice j 6 l (omega arith)))
 
-  used-there : (i : ℕ) → i < d Nodo .count → nodeUsed (e ObPun) (e Tramo) (e Vertice) (e Nodo) i ≡ nodeUsed (d ObPun) (d Tramo) (d Vertice) (d Nodo) (to Nodo i)
-  unfolding nodeUsed
+  ends-there : (name : ℕ) → endsTramo (e Tramo) name ≡ endsTramo (d Tramo) name
+  unfolding endsTramo
+  ends-there name =
+      ap₂ _||_ (names-there Tramo _ _ (λ j m. name-there Tramo j 6 m (omega arith)) name) (names-there Tramo _ _ (λ j m. name-there Tramo j 7 m (omega arith)) name)
+
+  namers-there : (name : ℕ) → namers (e ObPun) name ≡ namers (d ObPun) name
+  unfolding namers
+  namers-there name =
+      ap (howMany (λ j. eqb (nameAt ObPun (e ObPun) j 3) name)) (r .count ObPun)
+      ∙ count-turn (r .turn ObPun) (λ j. eqb (nameAt ObPun (d ObPun) j 3) name) _ (λ j m. ap (λ (x : ℕ). eqb x name) (name-there ObPun j 3 m (omega arith)))
+
+  used-there : (i : ℕ) → i < d Nodo .count → nodeIdle (e ObPun) (e Tramo) (e Vertice) (e Nodo) i ≡ nodeIdle (d ObPun) (d Tramo) (d Vertice) (d Nodo) (to Nodo i)
+  unfolding nodeIdle
   used-there i l =
       rw (name-there Nodo i 1 l (omega arith), r .says Nodo i 4 l (omega arith), r .says Nodo i 6 l (omega arith))
-      (ap₂ _||_ (names-there Tramo _ _ (λ j m. name-there Tramo j 6 m (omega arith)) _)
-      (ap₂ _||_ (names-there Tramo _ _ (λ j m. name-there Tramo j 7 m (omega arith)) _)
-      (ap₂ _||_ (placed-there _ _) (names-there ObPun _ _ (λ j m. name-there ObPun j 3 m (omega arith)) _))))
+      (ap₂ _&&_ (ap₂ (λ (a b : Bool). not a && not b) (ends-there _) (placed-there _ _)) (ap (λ (n : ℕ). ltb n 2) (namers-there _)))
+
+  -- of what a node is
+  tip-there : (j : ℕ) → j < d Vertice .count
+      → isTip (keyOf Vertice (e Vertice)) (e Vertice .count) j ≡ isTip (keyOf Vertice (d Vertice)) (d Vertice .count) (to Vertice j)
+  unfolding isTip
+  tip-there j l = rw (vertex-there j l, highest-there)
+
+  with-there : (p q : ℕ → Bool) → ((j : ℕ) → j < d Vertice .count → q j ≡ p (to Vertice j)) → (x y : ℕ) → vertexWith q (e Vertice) x y ≡ vertexWith p (d Vertice) x y
+  unfolding vertexWith
+  with-there p q same x y = any-there Vertice _ _ (λ j l. rw (same j l, r .says Vertice j 4 l (omega arith), r .says Vertice j 6 l (omega arith)))
+
+  is-end-there : (i : ℕ) → i < d Nodo .count → isEnd (e Tramo) (e Vertice) (e Nodo) i ≡ isEnd (d Tramo) (d Vertice) (d Nodo) (to Nodo i)
+  unfolding isEnd
+  is-end-there i l =
+      rw (name-there Nodo i 1 l (omega arith), r .says Nodo i 4 l (omega arith), r .says Nodo i 6 l (omega arith))
+      (ap₂ _||_ (ends-there _) (with-there _ _ tip-there _ _))
+
+  is-middle-there : (i : ℕ) → i < d Nodo .count → isMiddle (e Vertice) (e Nodo) i ≡ isMiddle (d Vertice) (d Nodo) (to Nodo i)
+  unfolding isMiddle
+  is-middle-there i l =
+      rw (r .says Nodo i 4 l (omega arith), r .says Nodo i 6 l (omega arith))
+      (with-there (λ j. not (isTip (keyOf Vertice (d Vertice)) (d Vertice .count) j)) _ (λ j m. ap not (tip-there j m)) _ _)
+
+  disagrees-there : (i : ℕ) → i < d Nodo .count → disagrees (e Tramo) (e Vertice) (e Nodo) i ≡ disagrees (d Tramo) (d Vertice) (d Nodo) (to Nodo i)
+  unfolding disagrees
+  disagrees-there i l = rw (r .says Nodo i 2 l (omega arith), is-end-there i l, is-middle-there i l)
 
   idle-there : (i : ℕ) → i < d ObLin .count → objectIdle (e ObLin) (e Tramo) i ≡ objectIdle (d ObLin) (d Tramo) (to ObLin i)
   unfolding objectIdle
@@ -268,7 +303,7 @@ module _ (d e : Delivery) (r : Rearranged d e) where
     none-54 i l = count-no (placedBefore (e Nodo)) (d Nodo .count) (placed-before-there ∙ count-none _ (d Nodo .count) separate) l
 
     fifties-there : (k : Kind) (i f u : ℕ) → i < d k .count → f ≤ fieldsOf k → getD (fifties e k i f) u false ≡ false
-    unfolding fifties breaks50 breaks51 breaks52 breaks53 breaks54 breaks55 breaks56 breaks57 breaks59
+    unfolding fifties breaks50 breaks51 breaks52 breaks53 breaks54 breaks55 breaks56 breaks57 breaks58 breaks59
     fifties-there k i f u l b =
         falses
         (more (told Vertice 2 (gap (keyOf Vertice (d Vertice)) (d Vertice .count)) _ gap-there k i f l (no 0 (omega arith)))
@@ -277,9 +312,9 @@ module _ (d e : Delivery) (r : Rearranged d e) where
         (more (told Tramo 7 (endElsewhere (d Tramo) (d Vertice) (d Nodo)) _ end-there k i f l (no 3 (omega arith)))
         (more (told Nodo 0 (λ j. false) _ none-54 k i f l (and-last (isAt Nodo 0 k f) false (λ _. refl)))
         (more (told ObPun 3 (pointElsewhere (d ObPun) (d Nodo)) _ point-there k i f l (no 5 (omega arith)))
-        (more (told Nodo 0 (λ j. not (nodeUsed (d ObPun) (d Tramo) (d Vertice) (d Nodo) j)) _ (λ j m. ap not (used-there j m)) k i f l (no 6 (omega arith)))
+        (more (told Nodo 0 (nodeIdle (d ObPun) (d Tramo) (d Vertice) (d Nodo)) _ used-there k i f l (no 6 (omega arith)))
         (more (told ObLin 0 (objectIdle (d ObLin) (d Tramo)) _ idle-there k i f l (no 7 (omega arith)))
-        (more refl
+        (more (told Nodo 2 (disagrees (d Tramo) (d Vertice) (d Nodo)) _ disagrees-there k i f l (no 8 (omega arith)))
         (more (told Tramo 4 (λ j. eqb (highest (d Vertice) (tramoLine (d Tramo) j)) 0) _ last-there k i f l (no 9 (omega arith))) end))))))))))
         u
       where

@@ -10,6 +10,7 @@ use index::way::Way;
 use index::way::prepare;
 use record::columns::letter;
 use record::kind::Kind;
+use record::kind::LIMIT;
 ghost use mathlib.Core.Path.{_≡_};
 ghost use mathlib.Core.Bool.{not, _&&_};
 ghost use Prim.Native.Nat.{_≤_};
@@ -21,6 +22,7 @@ ghost use Rattle.index.specs.Marks.{Marked, isMarked};
 ghost use Rattle.index.specs.Pairs.{wide};
 ghost use Rattle.index.specs.Way.{Ready};
 ghost use Rattle.record.specs.machinery.Columns.{Fills};
+ghost use Rattle.record.specs.Table.{limit};
 ghost use Rattle.record.specs.Says.{tableOf, letterIn};
 ghost use Rattle.record.specs.Names.{nameAt};
 ghost use Rattle.topology.specs.Rules.{endsTramo, nodeIdle, agrees, disagrees};
@@ -225,9 +227,8 @@ fn mark_by_place<'a, 'b>(
     }
 }
 
-// 56 and 58 of the nodes, with their ids, X and Y, which of them start or end a tramo, how many point objects name them, and which vertices
-// are tips in hand and room lent. Tramos and point objects are there for the contract alone.
-pub fn mark_nodes<'a, 'b>(
+// The same with room for the marks too.
+fn mark_in_room<'a, 'b>(
     ob_pun: &'a [u8],
     tramo: &'a [u8],
     vertice: &'a [u8],
@@ -286,6 +287,79 @@ pub fn mark_nodes<'a, 'b>(
         used,
         off_tips,
         off_others,
+        idle,
+        odd,
+    );
+}
+
+// 56 and 58 of the nodes, with their ids, X and Y, which of them start or end a tramo, how many point objects name them, and which vertices
+// are tips in hand and room lent. Tramos and point objects are there for the contract alone. The marks of what a node is not stand in arrays of
+// its own, since nothing else reads them.
+pub fn mark_nodes<'a, 'b>(
+    ob_pun: &'a [u8],
+    tramo: &'a [u8],
+    vertice: &'a [u8],
+    nodo: &'a [u8],
+    ids: &'b [u64],
+    ranks: &'b [usize],
+    nodes: &'b [u16],
+    by: Way,
+    n: usize,
+    named: &'b [u8],
+    counts: &'b [u8],
+    tips: &'b [u8],
+    nx: &'b [u64],
+    ny: &'b [u64],
+    most: usize,
+    vx: &mut [u64],
+    vy: &mut [u64],
+    hints: &mut [u16],
+    order: &mut [usize],
+    pairs: &mut [u64],
+    pair_hints: &mut [u16],
+    pair_order: &mut [usize],
+    refs: &mut [u64],
+    used: &mut [u8],
+    idle: &mut [u8],
+    odd: &mut [u8],
+)
+    requires { ⌜ Ready (now ids) (now ranks) (now nodes) n by × Fills (now ids) (λ j. nameAt Kind.Nodo (tableOf (now nodo) Kind.Nodo) j 1) (tableOf (now nodo) Kind.Nodo .count) n × Named (now ids) (now ranks) (now nodes) (by .hinted) n (now named) (endsTramo (tableOf (now tramo) Kind.Tramo)) × Counted (now ids) (now ranks) (now nodes) (by .hinted) n (now counts) (λ j. nameAt Kind.ObPun (tableOf (now «ob_pun») Kind.ObPun) j 3) (tableOf (now «ob_pun») Kind.ObPun .count) × Tips (now tips) (tableOf (now vertice) Kind.Vertice) × Positions (now nx) (now ny) Kind.Nodo (tableOf (now nodo) Kind.Nodo) n × (n ≤ most) × (most ≤ limit) × (tableOf (now vertice) Kind.Vertice .count ≤ most) × (most ≤ length (now vx)) × (most ≤ length (now vy)) × (most ≤ length (now order)) × (most ≤ length (now pairs)) × (most ≤ length (now «pair_order»)) × (most ≤ length (now refs)) × (most ≤ length (now used)) × (most ≤ length (now idle)) × (most ≤ length (now odd)) ⌝ }
+    ensures { λ _. ⌜ Marked (now (idle .entry)) (now (idle .exit)) (nodeIdle (tableOf (now («ob_pun» .entry)) Kind.ObPun) (tableOf (now (tramo .entry)) Kind.Tramo) (tableOf (now (vertice .entry)) Kind.Vertice) (tableOf (now (nodo .entry)) Kind.Nodo)) (tableOf (now (nodo .entry)) Kind.Nodo .count) ⌝ }
+    ensures others { λ _. ⌜ Marked (now (odd .entry)) (now (odd .exit)) (disagrees (tableOf (now (tramo .entry)) Kind.Tramo) (tableOf (now (vertice .entry)) Kind.Vertice) (tableOf (now (nodo .entry)) Kind.Nodo)) (tableOf (now (nodo .entry)) Kind.Nodo .count) ⌝ }
+{
+    let mut loose = [0u8; LIMIT];
+    let mut few = [0u8; LIMIT];
+    let mut off_tips = [0u8; LIMIT];
+    let mut off_others = [0u8; LIMIT];
+    mark_in_room(
+        ob_pun,
+        tramo,
+        vertice,
+        nodo,
+        ids,
+        ranks,
+        nodes,
+        by,
+        n,
+        named,
+        counts,
+        tips,
+        nx,
+        ny,
+        most,
+        vx,
+        vy,
+        hints,
+        order,
+        pairs,
+        pair_hints,
+        pair_order,
+        refs,
+        used,
+        &mut loose,
+        &mut few,
+        &mut off_tips,
+        &mut off_others,
         idle,
         odd,
     );

@@ -1,5 +1,6 @@
 -- `fifties::group::reason_in` meets its contract: each number's reason, and 54's with the node's.
 -- Assumes nothing.
+use mathlib.Core.Path.{_∙_}
 use native.Mathlib.Omega.{arith}
 use borrow.Author.Needs.{needs}
 use Rattle.fifties.proofs.FiftyLaws.{index-under, reason-54, reason-else}
@@ -43,7 +44,10 @@ returns-9 : tie.Need-returns-9
 returns-9 c = rw (c .match .keys9)
 
 returns-10 : tie.Need-returns-10
-returns-10 c = reason-else _ _ _ (c .match .rest)
+returns-10 c = rw (c .match .keys10)
+
+returns-11 : tie.Need-returns-11
+returns-11 c = reason-else _ _ _ (c .match .rest)
 
 pub reason-in-spec : {M : Type 1} → statement M
 reason-in-spec =
@@ -61,4 +65,5 @@ reason-in-spec =
     returns-7
     returns-8
     returns-9
-    returns-10)
+    returns-10
+    returns-11)

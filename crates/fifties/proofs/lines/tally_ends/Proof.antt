@@ -6,7 +6,7 @@ use native.Mathlib.Nat.{min-le-left}
 use native.Mathlib.Omega.{arith}
 use Rattle.record.specs.declared.kind.Kind.the-variants.{Tramo}
 use Rattle.record.specs.Files.{filesOf, deliveryOf}
-use Rattle.topology.specs.machinery.Used.{isEnd}
+use Rattle.topology.specs.Rules.{endsTramo}
 use Rattle.topology.proofs.UsedLaws.{used-filled, used-then}
 use Rattle.fifties.proofs.FiftyTallies.{none-little, little, endless-in, starts-in, tramos-in}
 use borrow.Author.Needs.{needs}
@@ -125,7 +125,7 @@ same-length-2 c =
     omega (arith, c6 .mark-apart2 .ensures .0 .long, c15 .mark-apart .ensures .0 .long, c23 .mark-endless .ensures .long)
 
 returns : tie.Need-returns
-unfolding isEnd
+unfolding endsTramo
 returns c =
     let c6 = c .before .before .before .before .before .before in
     let c9 = c6 .before .before .before in
