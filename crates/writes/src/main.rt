@@ -179,6 +179,9 @@ fn nodes() {
     case(b"node nothing given", 7, none());
     case(b"node TIPO A0", 7, text(v, 2, b"\xA0"));
     case(b"node TIPO A1", 7, text(v, 2, b"\xA1"));
+    show(b"node TIPO H", 7, text(v, 2, b"H"));
+    case(b"node TIPO h", 7, text(v, 2, b"h"));
+    case(b"node TIPO P", 7, text(v, 2, b"P"));
 }
 
 fn files() {
@@ -290,13 +293,24 @@ fn texts() {
     let v = text(text(number(none(), 1, 1), 3, b"0100002"), 4, b"a");
     let v = coordinate(coordinate(number(v, 8, 3), 10, 100), 12, 200);
     case(b"text height missing", 3, v);
-    show(b"text", 3, number(v, 5, 12));
+    let v = number(v, 5, 12);
+    show(b"text", 3, v);
+    case(b"text justification 0", 3, number(v, 8, 0));
+    show(b"text justification 9", 3, number(v, 8, 9));
+    case(b"text justification 10", 3, number(v, 8, 10));
+    case(b"text orientation 36000", 3, number(v, 7, 36000));
+    show(b"text orientation 35959", 3, number(v, 7, 35959));
 }
 
 fn points() {
     let v = text(text(number(none(), 1, 1), 4, b"0100003"), 5, b"a");
     let v = coordinate(coordinate(number(v, 3, 2), 9, 100), 11, 200);
     show(b"point", 2, v);
+    show(b"point orientation 0", 2, number(v, 6, 0));
+    show(b"point orientation 59", 2, number(v, 6, 59));
+    case(b"point orientation 60", 2, number(v, 6, 60));
+    case(b"point orientation 35960", 2, number(v, 6, 35960));
+    case(b"point orientation 100000", 2, number(v, 6, 100000));
 }
 
 fn say_reading(label: &[u8], n: usize) {
