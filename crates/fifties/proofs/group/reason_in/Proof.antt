@@ -1,6 +1,5 @@
 -- `fifties::group::reason_in` meets its contract: each number's reason, and 54's with the node's.
 -- Assumes nothing.
-use mathlib.Core.Path.{_∙_}
 use native.Mathlib.Omega.{arith}
 use borrow.Author.Needs.{needs}
 use Rattle.fifties.proofs.FiftyLaws.{index-under, reason-54, reason-else}

@@ -21,37 +21,97 @@ fill-names-requires : tie.Need-fill-names-requires
 fill-names-requires c κs = search needs
 
 fill-positions-requires : tie.Need-fill-positions-requires
-fill-positions-requires c κs = let p = c .before .before .before .before .before .before .before .before .before .before .before .before .before .before .before .before .before .before .pre in (rw (← c .before .before .before .before .before .before .before .file-of .ensures) at (p .3), p .5, p .6)
+fill-positions-requires c κs =
+    let c7 = c .before .before .before .before .before .before .before in
+    let c18 = c7 .before .before .before .before .before .before .before .before .before .before .before in
+    let p = c18 .pre in
+    (rw (← c7 .file-of .ensures) at (p .3), p .5, p .6)
 
 clear-requires : tie.Need-clear-requires
-clear-requires c κs = c .before .before .before .before .before .before .before .before .before .before .before .before .before .before .before .before .before .before .before .before .before .before .before .before .pre .8
+clear-requires c κs =
+    let c24 = c .before .before .before .before .before .before .before .before .before .before .before .before .before .before .before .before .before .before .before .before .before .before .before .before in
+    c24 .pre .8
 
 mark-astray-requires : tie.Need-mark-astray-requires
-mark-astray-requires c κs = let p = c .before .before .before .before .before .before .before .before .before .before .before .before .before .before .before .before .before .before .before .before .before .before .before .before .before .before .before .before .before .before .before .before .pre in let d = c .before .before .before .before .before .before .before .before .before .before .before .before .before .before .before .before .before .before .before .before .file-of2 .ensures in let l = rw (← c .before .before .before .before .before .before .before .before .before .before .before .before .before .before .before .before .before .before .before .before .before .file-of .ensures) at (p .3) in let f = read-fills (omega (arith, l, p .4)) (c .before .before .before .before .before .before .before .before .before .before .before .before .before .before .before .before .before .before .fill-names .ensures) in let q = c .before .before .before .before .before .before .before .before .before .before .before .before .before .fill-positions .ensures in (p .0, rw d (p .1), rw d (p .2), omega (arith, f .count, f .long), omega (arith, f .count, q .x .long), omega (arith, f .count, q .y .long), omega (arith, f .count, l, p .7), counted-start _ _ _ _ _ (p .8) (c .before .before .before .before .before .before .before .clear .ensures))
+mark-astray-requires c κs =
+    let c7 = c .before .before .before .before .before .before .before in
+    let c13 = c7 .before .before .before .before .before .before in
+    let c18 = c13 .before .before .before .before .before in
+    let c20 = c18 .before .before in
+    let c21 = c20 .before in
+    let c32 = c21 .before .before .before .before .before .before .before .before .before .before .before in
+    let p = c32 .pre in
+    let d = c20 .file-of2 .ensures in
+    let l = rw (← c21 .file-of .ensures) at (p .3) in
+    let f = read-fills (omega (arith, l, p .4)) (c18 .fill-names .ensures) in
+    let q = c13 .fill-positions .ensures in (
+      p .0,
+      rw d (p .1),
+      rw d (p .2),
+      omega (arith, f .count, f .long),
+      omega (arith, f .count, q .x .long),
+      omega (arith, f .count, q .y .long),
+      omega (arith, f .count, l, p .7),
+      counted-start _ _ _ _ _ (p .8) (c7 .clear .ensures),
+    )
 
 no-tally-requires : tie.Need-no-tally-requires
 no-tally-requires c κs = search needs
 
 with-marks-requires : tie.Need-with-marks-requires
-with-marks-requires c κs = let p = c .before .before .before .before .before .before .before .before .before .before .before .before .before .before .before .before .before .before .before .before .before .before .before .before .before .before .before .before .before .before .before .before .before .before .before .before .before .before .before .pre in let l = rw (← c .before .before .before .before .before .before .before .before .before .before .before .before .before .before .before .before .before .before .before .before .before .before .before .before .before .before .before .before .file-of .ensures) at (p .3) in let f = read-fills (omega (arith, l, p .4)) (c .before .before .before .before .before .before .before .before .before .before .before .before .before .before .before .before .before .before .before .before .before .before .before .before .before .fill-names .ensures) in (none-little (c .before .no-tally .ensures), omega (arith, c .before .before .before .before .before .before .mark-astray .ensures .0 .long, f .count, l, p .7), omega (arith, f .count, f .small))
+with-marks-requires c κs =
+    let c1 = c .before in
+    let c6 = c1 .before .before .before .before .before in
+    let c25 = c6 .before .before .before .before .before .before .before .before .before .before .before .before .before .before .before .before .before .before .before in
+    let c28 = c25 .before .before .before in
+    let c39 = c28 .before .before .before .before .before .before .before .before .before .before .before in
+    let p = c39 .pre in
+    let l = rw (← c28 .file-of .ensures) at (p .3) in
+    let f = read-fills (omega (arith, l, p .4)) (c25 .fill-names .ensures) in (
+      none-little (c1 .no-tally .ensures),
+      omega (arith, c6 .mark-astray .ensures .0 .long, f .count, l, p .7),
+      omega (arith, f .count, f .small),
+    )
 
 same-length : tie.Need-same-length
-same-length c = omega (arith, c .before .before .before .before .before .before .before .before .before .before .before .before .before .before .before .before .before .before .before .before .before .before .before .before .before .wanted .given)
+same-length c =
+    let c25 = c .before .before .before .before .before .before .before .before .before .before .before .before .before .before .before .before .before .before .before .before .before .before .before .before .before in
+    omega (arith, c25 .wanted .given)
 
 same-length-2 : tie.Need-same-length-2
-same-length-2 c = omega (arith, c .before .before .before .before .before .before .before .before .before .before .before .before .before .before .before .before .before .before .before .before .xs .given)
+same-length-2 c =
+    let c20 = c .before .before .before .before .before .before .before .before .before .before .before .before .before .before .before .before .before .before .before .before in
+    omega (arith, c20 .xs .given)
 
 same-length-3 : tie.Need-same-length-3
-same-length-3 c = omega (arith, c .before .before .before .before .before .before .before .before .before .before .before .before .before .before .before .before .before .before .ys .given)
+same-length-3 c =
+    let c18 = c .before .before .before .before .before .before .before .before .before .before .before .before .before .before .before .before .before .before in
+    omega (arith, c18 .ys .given)
 
 same-length-4 : tie.Need-same-length-4
-same-length-4 c = omega (arith, c .before .before .before .before .before .before .counts2 .given, c .before .before .before .before .before .before .before .before .before .before .before .before .before .before .counts .given)
+same-length-4 c =
+    let c6 = c .before .before .before .before .before .before in
+    let c14 = c6 .before .before .before .before .before .before .before .before in
+    omega (arith, c6 .counts2 .given, c14 .counts .given)
 
 same-length-5 : tie.Need-same-length-5
 same-length-5 c = omega (arith, c .before .before .before .before .marks .given)
 
 returns : tie.Need-returns
-returns c = let p = c .before .before .before .before .before .before .before .before .before .before .before .before .before .before .before .before .before .before .before .before .before .before .before .before .before .before .before .before .before .before .before .before .before .before .before .before .before .before .before .before .pre in let l = rw (← c .before .before .before .before .before .before .before .before .before .before .before .before .before .before .before .before .before .before .before .before .before .before .before .before .before .before .before .before .before .file-of .ensures) at (p .3) in let f = read-fills (omega (arith, l, p .4)) (c .before .before .before .before .before .before .before .before .before .before .before .before .before .before .before .before .before .before .before .before .before .before .before .before .before .before .fill-names .ensures) in (points-in (filesOf (map now (c .before .before .before .before .before .before .before .before .before .before .before .before .before .before .before .before .before .before .before .before .before .before .before .before .before .before .before .before .before .before .before .before .before .before .before .before .before .before .before .before .args .files))) (c .before .before .before .before .before .before .before .before .before .before .before .before .before .before .before .before .before .before .before .before .before .before .before .before .before .before .before .before .before .file-of .ensures) (c .before .before .before .before .before .before .before .before .before .before .before .before .before .before .before .before .before .before .before .before .before .before .before .before .before .before .before .before .file-of2 .ensures) f (c .before .before .before .before .before .before .before .before .before .before .before .before .before .before .before .before .before .before .before .before .before .fill-positions .ensures) (c .before .before .no-tally .ensures) (c .before .before .before .before .before .before .before .mark-astray .ensures .0) (c .with-marks .ensures), rw (c .before .before .before .before .before .before .before .before .before .before .before .before .before .before .before .before .before .before .before .before .before .before .before .before .before .before .before .before .before .file-of .ensures) at (counted-filled f (c .before .before .before .before .before .before .before .mark-astray .ensures .1)))
+returns c =
+    let c2 = c .before .before in
+    let c7 = c2 .before .before .before .before .before in
+    let c21 = c7 .before .before .before .before .before .before .before .before .before .before .before .before .before .before in
+    let c26 = c21 .before .before .before .before .before in
+    let c28 = c26 .before .before in
+    let c29 = c28 .before in
+    let c40 = c29 .before .before .before .before .before .before .before .before .before .before .before in
+    let p = c40 .pre in
+    let l = rw (← c29 .file-of .ensures) at (p .3) in
+    let f = read-fills (omega (arith, l, p .4)) (c26 .fill-names .ensures) in (
+      points-in (filesOf (map now (c40 .args .files))) (c29 .file-of .ensures) (c28 .file-of2 .ensures) f (c21 .fill-positions .ensures) (c2 .no-tally .ensures) (c7 .mark-astray .ensures .0) (c .with-marks .ensures),
+      rw (c29 .file-of .ensures) at (counted-filled f (c7 .mark-astray .ensures .1)),
+    )
 
 pub tally-points-spec : {M : Type 1} → statement M
 tally-points-spec =

@@ -16,22 +16,45 @@ enum-known-found : tie.Need-enum-known-found
 enum-known-found c = search needs
 
 mul-result : tie.Need-mul-result
-mul-result c = omega (arith, found-within _ _ _ (c .before .before .before .look .ensures .0) (c .before .found .given .1), c .before .before .before .before .before .before .before .before .before .pre .2)
+mul-result c =
+    let c1 = c .before in
+    let c3 = c1 .before .before in
+    let c9 = c3 .before .before .before .before .before .before in
+    omega (arith, found-within _ _ _ (c3 .look .ensures .0) (c1 .found .given .1), c9 .pre .2)
 
 shared-slice-read-result : tie.Need-shared-slice-read-result
-shared-slice-read-result c = omega (arith, found-within _ _ _ (c .before .before .before .before .look .ensures .0) (c .before .before .found .given .1), c .before .before .before .before .before .before .before .before .before .before .pre .2)
+shared-slice-read-result c =
+    let c2 = c .before .before in
+    let c4 = c2 .before .before in
+    let c10 = c4 .before .before .before .before .before .before in
+    omega (arith, found-within _ _ _ (c4 .look .ensures .0) (c2 .found .given .1), c10 .pre .2)
 
 mul-result-2 : tie.Need-mul-result-2
-mul-result-2 c = omega (arith, c .before .before .before .before .before .before .before .before .before .before .pre .1 .small _ (found-within _ _ _ (c .before .before .before .before .look .ensures .0) (c .before .before .found .given .1)))
+mul-result-2 c =
+    let c2 = c .before .before in
+    let c4 = c2 .before .before in
+    let c10 = c4 .before .before .before .before .before .before in
+    omega (arith, c10 .pre .1 .small _ (found-within _ _ _ (c4 .look .ensures .0) (c2 .found .given .1)))
 
 add-result : tie.Need-add-result
-add-result c = omega (arith, c .before .before .before .before .before .before .before .before .before .before .pre .1 .small _ (found-within _ _ _ (c .before .before .before .before .look .ensures .0) (c .before .before .found .given .1)), c .before .before .before .before .before .before .before .before .before .before .pre .3)
+add-result c =
+    let c2 = c .before .before in
+    let c4 = c2 .before .before in
+    let c10 = c4 .before .before .before .before .before .before in
+    omega (arith, c10 .pre .1 .small _ (found-within _ _ _ (c4 .look .ensures .0) (c2 .found .given .1)), c10 .pre .3)
 
 returns : tie.Need-returns
-returns c = pair-nowhere (c .before .before .before .before .before .before .before .before .pre .1) (c .before .before .look .ensures .0) (c .enum-told .given .1)
+returns c =
+    let c2 = c .before .before in
+    let c8 = c2 .before .before .before .before .before .before in
+    pair-nowhere (c8 .pre .1) (c2 .look .ensures .0) (c .enum-told .given .1)
 
 returns-2 : tie.Need-returns-2
-returns-2 c = pair-found (c .before .before .before .before .before .before .before .before .before .before .pre .1) (c .before .before .before .before .before .before .before .before .before .before .pre .3) (c .before .before .before .before .look .ensures .0) (c .before .before .found .given .1)
+returns-2 c =
+    let c2 = c .before .before in
+    let c4 = c2 .before .before in
+    let c10 = c4 .before .before .before .before .before .before in
+    pair-found (c10 .pre .1) (c10 .pre .3) (c4 .look .ensures .0) (c2 .found .given .1)
 
 pub pair-number-spec : {M : Type 1} → statement M
 pair-number-spec =

@@ -1,3 +1,5 @@
+-- `topology::sorts::asks_places` meets its contract. The loop's invariant: no node before `i` asks for its place.
+-- Assumes nothing.
 use Prim.Native.Nat.{_≤_, _-_}
 use mathlib.Core.Bool.{false}
 use mathlib.Core.Path.{_≡_, sym}
@@ -11,9 +13,6 @@ use Rattle.topology.specs.machinery.Nodes.{asksPlace}
 use Rattle.topology.proofs.SortLaws.{asks-is}
 use Rattle.topology.proofs.sorts.asks_places.Statement.{statement}
 use Rattle.topology.proofs.sorts.asks_places.Tie as tie
-use Rattle.topology.proofs.sorts.asks_places.Reads as reads
-use Rattle.topology.proofs.sorts.asks_places.Lts as lts
-use Rattle.record.proofs.columns.letter.Reads as letter-reads
 
 abbrev Inv-loop : tie.InvT-loop
 Inv-loop nodo loose few n i₀ i = (i ≤ n) × (any (asksPlace loose few (tableOf nodo Nodo)) i ≡ false)
@@ -35,11 +34,17 @@ shared-slice-read-if1 c = omega (arith, c .before .before .loop-test .taken, c .
 
 -- src/sorts.rt:51:72
 shared-slice-read-if1-2 : tie.Need-shared-slice-read-if1-2 Inv-loop μ-loop
-shared-slice-read-if1-2 c = omega (arith, c .before .before .before .loop-test .taken, c .before .before .before .before .before .before .before .before .pre .1)
+shared-slice-read-if1-2 c =
+    let c3 = c .before .before .before in
+    let c8 = c3 .before .before .before .before .before in
+    omega (arith, c3 .loop-test .taken, c8 .pre .1)
 
 -- src/sorts.rt:52:13
 returns : tie.Need-returns Inv-loop μ-loop
-returns c = sym (any-true _ _ (c .before .before .before .before .loop-test .taken) (asks-is _ _ _ _ (c .before .before .before .letter .ensures) (c .if1 .taken)))
+returns c =
+    let c3 = c .before .before .before in
+    let c4 = c3 .before in
+    sym (any-true _ _ (c4 .loop-test .taken) (asks-is _ _ _ _ (c3 .letter .ensures) (c .if1 .taken)))
 
 -- src/sorts.rt:54:9
 add-i : tie.Need-add-i Inv-loop μ-loop
@@ -51,7 +56,13 @@ loop-less c = search needs
 
 -- src/sorts.rt:50:5
 loop-again : tie.Need-loop-again Inv-loop μ-loop
-loop-again c = (omega (arith, c .before .before .before .before .loop-test .taken), any-next _ (c .before .before .before .before .before .loop .inv .1) (asks-is _ _ _ _ (c .before .before .before .letter .ensures) (c .if1 .left)))
+loop-again c =
+    let c3 = c .before .before .before in
+    let c4 = c3 .before in
+    let c5 = c4 .before in (
+      omega (arith, c4 .loop-test .taken),
+      any-next _ (c5 .loop .inv .1) (asks-is _ _ _ _ (c3 .letter .ensures) (c .if1 .left)),
+    )
 
 -- src/sorts.rt:45:1
 returns-2 : tie.Need-returns-2 Inv-loop μ-loop

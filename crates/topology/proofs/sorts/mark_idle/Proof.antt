@@ -1,3 +1,5 @@
+-- `topology::sorts::mark_idle` meets its contract. The loop's invariant: the marks of the nodes before `i` say that all four marks are there.
+-- Assumes nothing.
 use Prim.Native.Nat.{_-_}
 use mathlib.Core.Bool.{_&&_}
 use mathlib.Core.Path.{refl}
@@ -7,9 +9,6 @@ use Rattle.index.specs.Marks.{Marked, isMarked}
 use Rattle.index.proofs.MarkLaws.{marked-start, marked-more, marked-end}
 use Rattle.topology.proofs.sorts.mark_idle.Statement.{statement}
 use Rattle.topology.proofs.sorts.mark_idle.Tie as tie
-use Rattle.topology.proofs.sorts.mark_idle.Reads as reads
-use Rattle.topology.proofs.sorts.mark_idle.Lts as lts
-use Rattle.index.proofs.marks.as_mark.Reads as as-mark-reads
 
 abbrev Inv-loop : tie.InvT-loop
 Inv-loop loose off-tips off-others few n marks₀ i₀ marks i = Marked marks₀ marks (λ k. isMarked loose k && isMarked off-tips k && isMarked off-others k && isMarked few k) i
@@ -24,19 +23,32 @@ shared-slice-read-as-mark : tie.Need-shared-slice-read-as-mark Inv-loop μ-loop
 shared-slice-read-as-mark c = omega (arith, c .before .loop-test .taken, c .before .before .before .before .before .before .before .before .pre .0)
 
 shared-slice-read-as-mark-2 : tie.Need-shared-slice-read-as-mark-2 Inv-loop μ-loop
-shared-slice-read-as-mark-2 c = omega (arith, c .before .before .loop-test .taken, c .before .before .before .before .before .before .before .before .before .pre .1)
+shared-slice-read-as-mark-2 c =
+    let c2 = c .before .before in
+    let c9 = c2 .before .before .before .before .before .before .before in
+    omega (arith, c2 .loop-test .taken, c9 .pre .1)
 
 shared-slice-read-as-mark-3 : tie.Need-shared-slice-read-as-mark-3 Inv-loop μ-loop
-shared-slice-read-as-mark-3 c = omega (arith, c .before .before .before .loop-test .taken, c .before .before .before .before .before .before .before .before .before .before .pre .2)
+shared-slice-read-as-mark-3 c =
+    let c3 = c .before .before .before in
+    let c10 = c3 .before .before .before .before .before .before .before in
+    omega (arith, c3 .loop-test .taken, c10 .pre .2)
 
 shared-slice-read-as-mark-4 : tie.Need-shared-slice-read-as-mark-4 Inv-loop μ-loop
-shared-slice-read-as-mark-4 c = omega (arith, c .before .before .before .before .loop-test .taken, c .before .before .before .before .before .before .before .before .before .before .before .pre .3)
+shared-slice-read-as-mark-4 c =
+    let c4 = c .before .before .before .before in
+    let c11 = c4 .before .before .before .before .before .before .before in
+    omega (arith, c4 .loop-test .taken, c11 .pre .3)
 
 as-mark-requires : tie.Need-as-mark-requires Inv-loop μ-loop
 as-mark-requires c κs = search needs
 
 slice-write-marks : tie.Need-slice-write-marks Inv-loop μ-loop
-slice-write-marks c = omega (arith, c .before .before .before .before .before .before .loop .inv .long, c .before .before .before .before .before .loop-test .taken, c .before .before .before .before .before .before .before .before .before .before .before .before .pre .4)
+slice-write-marks c =
+    let c5 = c .before .before .before .before .before in
+    let c6 = c5 .before in
+    let c12 = c6 .before .before .before .before .before .before in
+    omega (arith, c6 .loop .inv .long, c5 .loop-test .taken, c12 .pre .4)
 
 add-i : tie.Need-add-i Inv-loop μ-loop
 add-i c = search needs
@@ -45,7 +57,11 @@ loop-less : tie.Need-loop-less Inv-loop μ-loop
 loop-less c = search needs
 
 loop-again : tie.Need-loop-again Inv-loop μ-loop
-loop-again c = marked-more (omega (arith, c .before .before .before .before .before .before .loop .inv .long, c .before .before .before .before .before .loop-test .taken, c .before .before .before .before .before .before .before .before .before .before .before .before .pre .4)) (c .as-mark .ensures) (c .before .before .before .before .before .before .loop .inv)
+loop-again c =
+    let c5 = c .before .before .before .before .before in
+    let c6 = c5 .before in
+    let c12 = c6 .before .before .before .before .before .before in
+    marked-more (omega (arith, c6 .loop .inv .long, c5 .loop-test .taken, c12 .pre .4)) (c .as-mark .ensures) (c6 .loop .inv)
 
 same-length : tie.Need-same-length Inv-loop μ-loop
 same-length c = c .before .loop .inv .long

@@ -1,15 +1,11 @@
+-- `topology::tops::prepare_ends` meets its contract. The lines are those of the column that was read.
+-- Assumes nothing.
 use native.Mathlib.Omega.{arith}
 use Rattle.record.proofs.ColumnLaws.{read-fills}
 use Rattle.topology.proofs.TopLaws.{ends-filled}
 use borrow.Author.Needs.{needs}
 use Rattle.topology.proofs.tops.prepare_ends.Statement.{statement}
 use Rattle.topology.proofs.tops.prepare_ends.Tie as tie
-use Rattle.topology.proofs.tops.prepare_ends.Reads as reads
-use Rattle.topology.proofs.tops.prepare_ends.Lts as lts
-use Rattle.record.proofs.fill.fill_names.Reads as fill-names-reads
-use Rattle.topology.proofs.tops.fill_ends.Reads as fill-ends-reads
-use Rattle.topology.proofs.tops.mark_tips.Reads as mark-tips-reads
-use Rattle.topology.proofs.tops.prepare_tops.Reads as prepare-tops-reads
 
 prepare-tops-requires : tie.Need-prepare-tops-requires
 prepare-tops-requires c κs = search needs
@@ -21,7 +17,12 @@ fill-names-requires : tie.Need-fill-names-requires
 fill-names-requires c κs = search needs
 
 fill-ends-requires : tie.Need-fill-ends-requires
-fill-ends-requires c κs = let f = read-fills (c .before .before .before .before .before .before .before .before .before .before .before .before .before .before .before .before .before .before .before .before .before .before .before .before .before .before .before .before .before .before .before .before .before .before .before .before .before .before .before .before .pre .6) (c .before .before .before .before .before .before .before .before .fill-names .ensures) in (c .before .before .before .before .before .before .before .before .before .before .before .before .before .before .before .before .before .before .before .before .before .before .before .before .before .before .prepare-tops .ensures, omega (arith, f .count, f .long), omega (arith, f .count, c .before .before .before .before .before .before .before .before .before .before .before .before .before .before .before .before .before .before .before .before .before .before .before .before .before .before .before .before .before .before .before .before .before .before .before .before .before .before .before .before .pre .7))
+fill-ends-requires c κs =
+    let c8 = c .before .before .before .before .before .before .before .before in
+    let c26 = c8 .before .before .before .before .before .before .before .before .before .before .before .before .before .before .before .before .before .before in
+    let c40 = c26 .before .before .before .before .before .before .before .before .before .before .before .before .before .before in
+    let f = read-fills (c40 .pre .6) (c8 .fill-names .ensures) in
+    (c26 .prepare-tops .ensures, omega (arith, f .count, f .long), omega (arith, f .count, c40 .pre .7))
 
 same-length : tie.Need-same-length
 same-length c = search needs
@@ -45,7 +46,15 @@ same-length-7 : tie.Need-same-length-7
 same-length-7 c = search needs
 
 returns : tie.Need-returns
-returns c = (ends-filled (c .before .before .before .before .before .before .before .before .before .before .before .before .before .before .before .before .before .before .before .before .before .before .before .before .before .before .before .before .before .before .before .before .before .before .before .before .before .before .before .before .before .before .before .args .keys .now) (c .before .before .before .before .before .before .before .before .before .before .before .before .before .before .before .before .before .before .before .before .before .before .before .before .before .before .before .before .before .before .before .before .before .before .before .before .before .before .before .before .before .before .before .args .n) (read-fills (c .before .before .before .before .before .before .before .before .before .before .before .before .before .before .before .before .before .before .before .before .before .before .before .before .before .before .before .before .before .before .before .before .before .before .before .before .before .before .before .before .before .before .before .pre .6) (c .before .before .before .before .before .before .before .before .before .before .before .fill-names .ensures)) (omega (arith, c .before .out .given, c .before .before .before .before .before .before .before .before .before .before .before .before .before .before .before .before .before .before .before .before .before .before .before .before .before .before .before .before .before .before .before .before .before .before .before .before .before .before .before .before .before .before .before .pre .7)) (c .before .before .fill-ends .ensures), c .before .before .before .before .before .before .before .before .before .before .before .before .before .before .before .mark-tips .ensures)
+returns c =
+    let c1 = c .before in
+    let c2 = c1 .before in
+    let c11 = c2 .before .before .before .before .before .before .before .before .before in
+    let c15 = c11 .before .before .before .before in
+    let c43 = c15 .before .before .before .before .before .before .before .before .before .before .before .before .before .before .before .before .before .before .before .before .before .before .before .before .before .before .before .before in (
+      ends-filled (c43 .args .keys .now) (c43 .args .n) (read-fills (c43 .pre .6) (c11 .fill-names .ensures)) (omega (arith, c1 .out .given, c43 .pre .7)) (c2 .fill-ends .ensures),
+      c15 .mark-tips .ensures,
+    )
 
 pub prepare-ends-spec : {M : Type 1} → statement M
 prepare-ends-spec =

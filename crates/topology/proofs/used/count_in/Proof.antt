@@ -1,10 +1,9 @@
+-- `topology::used::count_in` meets its contract. One more is put at the record that was found.
+-- Assumes nothing.
 use Rattle.topology.proofs.UsedLaws.{below-at, count-at}
 use borrow.Author.Needs.{needs}
 use Rattle.topology.proofs.used.count_in.Statement.{statement}
 use Rattle.topology.proofs.used.count_in.Tie as tie
-use Rattle.topology.proofs.used.count_in.Reads as reads
-use Rattle.topology.proofs.used.count_in.Lts as lts
-use Rattle.topology.proofs.used.one_more.Reads as one-more-reads
 
 enum-told : tie.Need-enum-told
 enum-told c = search needs
