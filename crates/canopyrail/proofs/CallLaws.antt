@@ -52,7 +52,7 @@ none-lent f (x ∷ l) e = absurd (omega arith)
 
 -- WHAT A REASON CARRIES: nothing, where it is none of 30, 41 and 54
 abbrev plain : List ℕ
-plain = 0 ∷ 1 ∷ 2 ∷ 3 ∷ 4 ∷ 5 ∷ 6 ∷ 7 ∷ 9 ∷ 11 ∷ 12 ∷ 13 ∷ 14 ∷ 16 ∷ 17 ∷ 18 ∷ 19 ∷ 20 ∷ 21 ∷ 22 ∷ 23 ∷ 24 ∷ 25 ∷ 26 ∷ 27 ∷ 28 ∷ []
+plain = 0 ∷ 1 ∷ 2 ∷ 3 ∷ 4 ∷ 5 ∷ 6 ∷ 7 ∷ 9 ∷ 11 ∷ 12 ∷ 13 ∷ 14 ∷ 16 ∷ 17 ∷ 18 ∷ 19 ∷ 20 ∷ 21 ∷ 22 ∷ 23 ∷ 24 ∷ 25 ∷ 26 ∷ 27 ∷ 28 ∷ 29 ∷ []
 
 pub other-none : (reason : Reason) → OneOf plain (tagOf the-type reason) → 0 ≡ otherOf reason
 other-none R.LongFile10 h = refl
@@ -84,6 +84,7 @@ other-none R.Missing64 h = refl
 other-none R.Outside65 h = refl
 other-none R.NoSuchRecord66 h = refl
 other-none R.TooMany67 h = refl
+other-none R.IdleComposite70 h = refl
 
 -- A REASON'S NUMBER is not 0, so neither is the answer that tells it
 numbered : (reason : Reason) → ltb 0 (numberOf reason) ≡ true
@@ -116,6 +117,7 @@ numbered R.Missing64 = refl
 numbered R.Outside65 = refl
 numbered R.NoSuchRecord66 = refl
 numbered R.TooMany67 = refl
+numbered R.IdleComposite70 = refl
 
 pub refusal-told : (reason : Reason) (field : ℕ) → refusalWord reason field ≡ 0 → ⊥
 unfolding refusalWord answerNumber

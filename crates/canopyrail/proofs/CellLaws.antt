@@ -14,6 +14,7 @@ use Rattle.record.specs.declared.reason.Reason.the-variants.{ShortRoom61}
 use Rattle.record.specs.declared.reason.Finding.{Finding}
 use Rattle.record.specs.declared.reason.Finding.the-variants.{Fine, Broken}
 use Rattle.record.specs.Breaks.{fine}
+use Rattle.record.specs.Table.{fileCount}
 use Rattle.record.specs.Files.{Files, filesOf}
 use Rattle.judge.specs.Broken.{groups}
 use Rattle.judge.proofs.Cases.{no-files}
@@ -48,7 +49,7 @@ pub grid-held : (files : Files) (rest : List ℕ) → gridIn (lentCells (gridOf 
 grid-held files rest = put-held (gridOf files) rest (shaped-grid files)
 
 -- THE GRID OF NO FILES is of zeros
-pub none-grid : {A : Type 0} (f : A → List ℕ) (l : List A) → length l ≡ 0 → replicate 7 (replicate 5 0) ≡ gridOf (filesOf (map f l))
+pub none-grid : {A : Type 0} (f : A → List ℕ) (l : List A) → length l ≡ 0 → replicate fileCount (replicate groups 0) ≡ gridOf (filesOf (map f l))
 none-grid f [] e = sym (zero-exactly (filesOf []) .0 no-files)
 none-grid f (x ∷ l) e = absurd (omega arith)
 

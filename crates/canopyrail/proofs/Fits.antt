@@ -26,6 +26,7 @@ use Rattle.record.proofs.TableLaws.{sane}
 use Rattle.keys.specs.machinery.Groups.{brokenBy}
 use Rattle.keys.specs.machinery.Findings.{keysBroken}
 use Rattle.fifties.specs.machinery.Findings.{topologyBroken}
+use Rattle.objects.specs.machinery.Findings.{objectsBroken}
 use Rattle.judge.specs.Verdict.{judged}
 use Rattle.judge.specs.Broken.{placeAt}
 use Rattle.judge.specs.machinery.Searched.{brokenIn}
@@ -82,6 +83,10 @@ module _ (files : Files) (n : ℕ) (k : Kind) (i f : ℕ) where
   unfolding topologyBroken
   topology-where e = by-where _ k (deliveryOf files k .count) n i f (min-le-left limit (countOf (files k) k)) e
 
+  objects-where : objectsBroken (deliveryOf files) k n i f ≡ true → (i ≤ limit) × (f ≤ mostFields)
+  unfolding objectsBroken
+  objects-where e = by-where _ k (deliveryOf files k .count) n i f (min-le-left limit (countOf (files k) k)) e
+
   -- a break is at the file's whole records plus 1 at most, where that is more than the limit; and at no field past the last that a record may have
   broken-where : brokenIn files n k i f ≡ true → ((i ≤ countOf (files k) k + 1) ⊎ (i ≤ limit)) × (f ≤ mostFields)
   unfolding brokenIn
@@ -95,6 +100,8 @@ module _ (files : Files) (n : ℕ) (k : Kind) (i f : ℕ) where
           ∷ keysBroken (deliveryOf files) k n i f
           ∷ keysBroken (deliveryOf files) k n i f
           ∷ topologyBroken (deliveryOf files) k n i f
+          ∷ false
+          ∷ objectsBroken (deliveryOf files) k n i f
           ∷ []
 
       go : (t : ℕ) → n / 10 ≡ t → getD tests t false ≡ true → ((i ≤ countOf (files k) k + 1) ⊎ (i ≤ limit)) × (f ≤ mostFields)
@@ -104,7 +111,9 @@ module _ (files : Files) (n : ℕ) (k : Kind) (i f : ℕ) where
       go (suc (suc (suc zero))) q h = let p = keys-where h in (inr (p .0), p .1)
       go (suc (suc (suc (suc zero)))) q h = let p = keys-where h in (inr (p .0), p .1)
       go (suc (suc (suc (suc (suc zero))))) q h = let p = topology-where h in (inr (p .0), p .1)
-      go (suc (suc (suc (suc (suc (suc t)))))) q h = absurd (true-false (sym h))
+      go (suc (suc (suc (suc (suc (suc zero)))))) q h = absurd (true-false (sym h))
+      go (suc (suc (suc (suc (suc (suc (suc zero))))))) q h = let p = objects-where h in (inr (p .0), p .1)
+      go (suc (suc (suc (suc (suc (suc (suc (suc t)))))))) q h = absurd (true-false (sym h))
 
 -- A PLACE THAT IS SHOWN: were its file too long, that would be told before
 long-broken : (files : Files) (k : Kind) → breaks10 (files k) k ≡ true → brokenIn files 10 k 0 0 ≡ true

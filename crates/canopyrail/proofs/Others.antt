@@ -41,6 +41,8 @@ use Rattle.keys.specs.Rules.{orFirst, firstWith, refersToCatalogue, mistyped, t
 use Rattle.keys.specs.machinery.Findings.{keysBroken}
 use Rattle.topology.specs.Rules.{fiftyReasons}
 use Rattle.fifties.specs.machinery.Findings.{topologyBroken}
+use Rattle.objects.specs.Rules.{seventyReasons}
+use Rattle.objects.specs.machinery.Findings.{objectsBroken}
 use Rattle.judge.specs.Verdict.{judged}
 use Rattle.judge.specs.Broken.{reasonOf, placeAt}
 use Rattle.judge.specs.machinery.Searched.{brokenIn}
@@ -88,6 +90,7 @@ in-domain-small t e = go (decLt 255 (getD t 0 0))
           ne-eqb (getD t 0 0) 88 (λ q. omega (arith, h, q)),
           ne-eqb (getD t 0 0) 76 (λ q. omega (arith, h, q)),
           ne-eqb (getD t 0 0) 84 (λ q. omega (arith, h, q)),
+          ne-eqb (getD t 0 0) 67 (λ q. omega (arith, h, q)),
         ) at e)))
 
 not-outside : (t next : List ℕ) → outside Words ObjectType t next ≡ false → wordWithin ObjectType t ≡ true
@@ -180,6 +183,8 @@ module _ (files : Files) (n : ℕ) (k : Kind) (i f : ℕ)
           ∷ keysBroken d k n i f
           ∷ keysBroken d k n i f
           ∷ topologyBroken d k n i f
+          ∷ false
+          ∷ objectsBroken d k n i f
           ∷ []
 
       reasons : List (List Reason)
@@ -190,6 +195,8 @@ module _ (files : Files) (n : ℕ) (k : Kind) (i f : ℕ)
           ∷ keyReasons 3 d k (i - 1) f
           ∷ keyReasons 4 d k (i - 1) f
           ∷ fiftyReasons d k (i - 1) f
+          ∷ []
+          ∷ seventyReasons
           ∷ []
 
       none-told : 0 ≤ limit
@@ -208,7 +215,9 @@ module _ (files : Files) (n : ℕ) (k : Kind) (i f : ℕ)
           letter-fits (nameAt k (d k) (i - 1) f) (omega (arith, p)) (catalogued d k (i - 1) f (mistyped-told p q h))
       go (suc (suc (suc (suc zero)))) (suc (suc u)) p q h = none-told
       go (suc (suc (suc (suc (suc zero))))) u p q h = at-fits (fiftyReasons d k (i - 1) f) u (earlier-fitting _ i (topology-where files n k i f h .0))
-      go (suc (suc (suc (suc (suc (suc t)))))) u p q h = none-told
+      go (suc (suc (suc (suc (suc (suc zero)))))) u p q h = none-told
+      go (suc (suc (suc (suc (suc (suc (suc zero))))))) u p q h = at-fits seventyReasons u refl
+      go (suc (suc (suc (suc (suc (suc (suc (suc t)))))))) u p q h = none-told
 
 pub other-fits : (files : Files) (b : Break) → judged files ≡ Broken b → otherOf (b .reason) ≤ pick (eqb (numberOf (b .reason)) 41) 255 limit
 unfolding FoundFirst

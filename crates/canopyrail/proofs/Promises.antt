@@ -417,5 +417,5 @@ field-once answer r r' e e' = e ∙ sym e'
 pub other-once : (answer r r' : ℕ) → r ≡ otherIn answer → r' ≡ otherIn answer → r ≡ r'
 other-once answer r r' e e' = e ∙ sym e'
 
-pub version-once : (r r' : ℕ) → r ≡ 203 → r' ≡ 203 → r ≡ r'
+pub version-once : (r r' : ℕ) → r ≡ 204 → r' ≡ 204 → r ≡ r'
 version-once r r' e e' = e ∙ sym e'

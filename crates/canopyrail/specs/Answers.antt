@@ -41,6 +41,7 @@ otherOf R.Missing64 = 0
 otherOf R.Outside65 = 0
 otherOf R.NoSuchRecord66 = 0
 otherOf R.TooMany67 = 0
+otherOf R.IdleComposite70 = 0
 
 -- reason, file, record, field and other, in 2, 2, 5, 2 and 5 digits
 unfoldable pub answerNumber : ℕ → ℕ → ℕ → ℕ → ℕ → ℕ

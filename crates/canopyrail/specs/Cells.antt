@@ -1,4 +1,4 @@
--- Grids in lent memory, and the two calls on them: 35 cells, by file and then group.
+-- Grids in lent memory, and the two calls on them: 48 cells, by file and then group.
 -- Assumes nothing.
 use Prim.Native.Nat.{ℕ, _+_, _*_, _/_, _%_}
 use mathlib.Core.Bool.{Bool, _||_}

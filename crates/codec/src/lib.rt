@@ -1,4 +1,4 @@
-// One record of any of the seven files, read as values and written from values.
+// One record of any of the eight files, read as values and written from values.
 pub mod read;
 mod refuse;
 pub mod values;

@@ -1,6 +1,6 @@
 -- The cells of the fifties (specs/Rules.antt): those of each file at which no rule is read, where no test holds. The reasons with their data.
 -- Assumes nothing.
-use Prim.Native.Nat.{ℕ, zero, suc, _+_, _*_, _/_, _%_, _≤_}
+use Prim.Native.Nat.{ℕ, zero, suc, _+_, _/_, _%_, _≤_}
 use mathlib.Core.Bool.{Bool, true, false, _&&_}
 use mathlib.Core.List.{List, [], _∷_}
 use mathlib.Core.Option.{Option, none, some}
@@ -9,18 +9,20 @@ use native.Mathlib.Numerals.{add-one}
 use native.Mathlib.Omega.{arith}
 use lib.Dec.{eqb}
 use lib.ListN.{getD}
-use borrow.Author.Tests.{eq-eqb, eqb-true}
+use borrow.Author.Tests.{eq-eqb}
 use Rattle.laws.specs.Find.{firstIndex}
 use Rattle.laws.proofs.FindLaws.{true-false, index-some-at}
 use Rattle.index.specs.declared.Found.{Found}
 use Rattle.index.specs.Keys.{foundOf}
 use Rattle.record.specs.declared.kind.Kind.{Kind}
-use Rattle.record.specs.declared.kind.Kind.the-variants.{Catalogo, ObPun, ObTex, ObLin, Tramo, Vertice, Nodo}
+use Rattle.record.specs.declared.kind.Kind.the-variants.{ObPun, ObLin, Tramo, Vertice, Nodo}
 use Rattle.record.specs.declared.reason.Reason.the-variants.{LongFile10, SamePlace54}
-use Rattle.record.proofs.TableLaws.{NoneOf}
+use Rattle.record.proofs.TableLaws.{NoneOf, numbers, default-at}
+use Rattle.record.specs.Table.{fileOf}
 use Rattle.record.specs.Says.{Table}
 use Rattle.record.specs.Files.{Delivery}
 use Rattle.keys.specs.Rules.{orFirst}
+use Rattle.keys.proofs.CellLaws.{not-cell}
 use Rattle.topology.specs.machinery.Places.{orIndex}
 use Rattle.topology.specs.Rules.{isAt, samePlace, breaks50, breaks51, breaks52, breaks53, breaks54, breaks55, breaks56, breaks57, breaks58, breaks59, fifties, reasonsAt}
 
@@ -30,7 +32,7 @@ pub data Else {A : Type 0} (d : A) (u : ℕ) : ℕ → List A → Type 0 where
   plain : {n : ℕ} {xs : List A} → Else d u (suc n) xs → Else d u n (d ∷ xs)
   past : {n : ℕ} {x : A} {xs : List A} → (u ≡ n → x ≡ d) → Else d u (suc n) xs → Else d u n (x ∷ xs)
 
-other : {A : Type 0} {d : A} {u n : ℕ} {x : A} {xs : List A} → (u ≡ n → ⊥) → Else d u (suc n) xs → Else d u n (x ∷ xs)
+pub other : {A : Type 0} {d : A} {u n : ℕ} {x : A} {xs : List A} → (u ≡ n → ⊥) → Else d u (suc n) xs → Else d u n (x ∷ xs)
 other h o = past (λ e. absurd (h e)) o
 
 else-from : {A : Type 0} {d : A} {u n : ℕ} {xs : List A} → Else d u n xs → (v : ℕ) → u ≡ n + v → getD xs v d ≡ d
@@ -92,29 +94,8 @@ module _ (nodes : Table) (i u : ℕ) where
       → SamePlace54 (x + 1) ≡ getD (reasonsAt nodes i) u LongFile10
   reason-54 e q h = rw (e, h, q, first-index, add-one)
 
-  pub reason-else : NoneOf (9 ∷ 8 ∷ 7 ∷ 6 ∷ 5 ∷ 4 ∷ 3 ∷ 2 ∷ 1 ∷ 0 ∷ []) u → LongFile10 ≡ getD (reasonsAt nodes i) u LongFile10
-  reason-else o =
-      sym
-      (else-default
-      (other (o .0 .0 .0 .0 .0 .0 .0 .0 .0 .1)
-      (other (o .0 .0 .0 .0 .0 .0 .0 .0 .1)
-      (other (o .0 .0 .0 .0 .0 .0 .0 .1)
-      (other (o .0 .0 .0 .0 .0 .0 .1)
-      (other (o .0 .0 .0 .0 .0 .1)
-      (other (o .0 .0 .0 .0 .1)
-      (other (o .0 .0 .0 .1)
-      (other (o .0 .0 .1)
-      (other (o .0 .1)
-      (other (o .1) end)))))))))))
-
--- A CELL c that is not the one of field f and reason u
-not-cell : (c f u : ℕ) → (c ≡ f * 10 + u → ⊥) → (eqb (c / 10) f && eqb (c % 10) u) ≡ false
-not-cell c f u ne = go (eqb (c / 10) f) refl (eqb (c % 10) u) refl
-  where
-    go : (s : Bool) → eqb (c / 10) f ≡ s → (t : Bool) → eqb (c % 10) u ≡ t → (s && t) ≡ false
-    go true a true b = absurd (ne (omega (arith, eqb-true (c / 10) f a, eqb-true (c % 10) u b)))
-    go true a false b = refl
-    go false a t b = refl
+  pub reason-else : NoneOf (numbers 0 10) u → LongFile10 ≡ getD (reasonsAt nodes i) u LongFile10
+  reason-else o = default-at LongFile10 0 (reasonsAt nodes i) u o
 
 -- THE CELLS of each file that have no rule
 pub free-vertice : (c : ℕ) → (c ≡ 20 → ⊥) → (c ≡ 21 → ⊥) → Free Vertice (c / 10) (c % 10)
@@ -192,10 +173,23 @@ free-ob-lin c a =
       line = refl;
     }
 
-pub free-catalogo : (c : ℕ) → Free Catalogo (c / 10) (c % 10)
-free-catalogo c =
-    record { gap = refl; alone = refl; start = refl; last = refl; place = refl; point = refl; idle = refl; object = refl; code = refl; line = refl }
+-- a file of which no rule is read
+elsewhere : {b : Bool} (s t : Bool) → b ≡ false → ((b && s) && t) ≡ false
+elsewhere s t e = rw e
 
-pub free-ob-tex : (c : ℕ) → Free ObTex (c / 10) (c % 10)
-free-ob-tex c =
-    record { gap = refl; alone = refl; start = refl; last = refl; place = refl; point = refl; idle = refl; object = refl; code = refl; line = refl }
+pub free-none :
+    (k : Kind) (c : ℕ) → eqb (fileOf k) 2 ≡ false → eqb (fileOf k) 4 ≡ false → eqb (fileOf k) 5 ≡ false → eqb (fileOf k) 6 ≡ false → eqb (fileOf k) 7 ≡ false
+    → Free k (c / 10) (c % 10)
+free-none k c point object tramo vertex node =
+    record {
+      gap = elsewhere _ _ vertex;
+      alone = elsewhere _ _ vertex;
+      start = elsewhere _ _ tramo;
+      last = elsewhere _ _ tramo;
+      place = elsewhere _ _ node;
+      point = elsewhere _ _ point;
+      idle = elsewhere _ _ node;
+      object = elsewhere _ _ object;
+      code = elsewhere _ _ node;
+      line = elsewhere _ _ tramo;
+    }

@@ -14,7 +14,7 @@ use Rattle.index.specs.Marks.{Marked, isMarked}
 use Rattle.index.specs.Tally.{noTally, withCell}
 use Rattle.index.specs.declared.tally.Tally.{Tally}
 use Rattle.record.specs.declared.kind.Kind.{Kind}
-use Rattle.record.specs.declared.kind.Kind.the-variants.{Catalogo, ObPun, ObTex, ObLin, Tramo, Vertice, Nodo}
+use Rattle.record.specs.declared.kind.Kind.the-variants.{Catalogo, ObPun, ObTex, ObLin, Tramo, Vertice, Nodo, ObComp}
 use Rattle.record.specs.declared.reason.Reason.the-variants.{LongFile10}
 use Rattle.record.specs.declared.reason.Break.{Break}
 use Rattle.record.specs.declared.reason.Finding.the-variants.{Fine, Broken}
@@ -36,7 +36,7 @@ use Rattle.topology.specs.declared.ends.End.the-variants.{Start, Last}
 use Rattle.topology.specs.Rules.{gap, unpaired, highestIn, highest, tramoLine, tramoStart, tramoEnd, placedBefore, pointElsewhere, nodeIdle, objectIdle, disagrees, breaks50, breaks51, breaks52, breaks53, breaks54, breaks55, breaks56, breaks57, breaks58, breaks59, fifties, fiftyReasons}
 use Rattle.fifties.specs.machinery.Findings.{topologyIn}
 use Rattle.topology.proofs.EndLaws.{endless-marks, apart-marks, astray-marks}
-use Rattle.fifties.proofs.FiftyLaws.{Free, else-default, free-tests, free-vertice, free-tramo, free-nodo, free-ob-pun, free-ob-lin, free-catalogo, free-ob-tex}
+use Rattle.fifties.proofs.FiftyLaws.{Free, else-default, free-tests, free-vertice, free-tramo, free-nodo, free-ob-pun, free-ob-lin, free-none}
 
 -- r is t and one cell more, by the marks of n records
 abbrev pub Next : Tally → List ℕ → ℕ → ℕ → Tally → Type 0
@@ -218,19 +218,27 @@ module _ (files : Files) where
     nodes-in q z m w = nodes-tally del q z (rw (b, c, e) at m) w
 
 module _ (d : Delivery) where
-  -- CATALOGO and OB_TEX have no rule of the fifties
-  pub catalogue-tally : {t : Tally} → t ≡ noTally → t ≡ fiftyTally d Catalogo
-  catalogue-tally z = to-end d Catalogo 0 (omega arith) (λ c l. free-catalogo c) (from-none d Catalogo z)
+  -- a file of which no rule of the fifties is read
+  none-tally : (k : Kind) → ((c : ℕ) → Free k (c / 10) (c % 10)) → {t : Tally} → t ≡ noTally → t ≡ fiftyTally d k
+  none-tally k quiet z = to-end d k 0 (omega arith) (λ c l. quiet c) (from-none d k z)
 
-  pub texts-tally : {t : Tally} → t ≡ noTally → t ≡ fiftyTally d ObTex
-  texts-tally z = to-end d ObTex 0 (omega arith) (λ c l. free-ob-tex c) (from-none d ObTex z)
-
-  -- ALL FILES, in the order of their numbers
+  -- ALL FILES, in the order of their numbers; CATALOGO, OB_TEX and OB_COMP have no rule of the fifties
   pub all-tallies :
-      {a b c e f g h : Tally} → a ≡ fiftyTally d Catalogo → b ≡ fiftyTally d ObPun → c ≡ fiftyTally d ObTex → e ≡ fiftyTally d ObLin
-      → f ≡ fiftyTally d Tramo → g ≡ fiftyTally d Vertice → h ≡ fiftyTally d Nodo → a ∷ b ∷ c ∷ e ∷ f ∷ g ∷ h ∷ [] ≡ fiftyTallies d
+      {a b c e f g h i : Tally} → a ≡ noTally → b ≡ fiftyTally d ObPun → c ≡ noTally → e ≡ fiftyTally d ObLin
+      → f ≡ fiftyTally d Tramo → g ≡ fiftyTally d Vertice → h ≡ fiftyTally d Nodo → i ≡ noTally
+      → a ∷ b ∷ c ∷ e ∷ f ∷ g ∷ h ∷ i ∷ [] ≡ fiftyTallies d
   unfolding fiftyTallies
-  all-tallies p q r s t u v = rw (p, q, r, s, t, u, v)
+  all-tallies p q r s t u v w =
+      rw (
+        none-tally Catalogo (λ c. free-none Catalogo c refl refl refl refl refl) p,
+        q,
+        none-tally ObTex (λ c. free-none ObTex c refl refl refl refl refl) r,
+        s,
+        t,
+        u,
+        v,
+        none-tally ObComp (λ c. free-none ObComp c refl refl refl refl refl) w,
+      )
 
   -- THE FINDING of a file from its tally
   pub own-tally : (k : Kind) {tallies : List Tally} → tallies ≡ fiftyTallies d → getD tallies (fileOf k - 1) noTally ≡ fiftyTally d k

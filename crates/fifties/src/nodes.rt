@@ -167,7 +167,7 @@ fn tally_nodes<'a, 'b>(
 }
 
 // Each file's tally, with those of the tramos and the vertices and the ids, X and Y of the nodes in hand. No rule of the fifties is read of
-// CATALOGO and OB_TEX.
+// CATALOGO, OB_TEX and OB_COMP.
 pub(crate) fn tally_in_hand<'a, 'b>(
     files: [&'a [u8]; FILES],
     tramos: Tally,
@@ -248,5 +248,6 @@ pub(crate) fn tally_in_hand<'a, 'b>(
         tramos,
         vertices,
         nodes,
+        no_tally(),
     ]
 }

@@ -1,4 +1,4 @@
--- What is read into a part of the room fits it, and so do seven lengths (specs/Folder.antt).
+-- What is read into a part of the room fits it, and so do eight lengths (specs/Folder.antt).
 -- Assumes nothing.
 use Prim.Native.Nat.{ℕ, zero, suc, _+_, _-_, _≤_}
 use mathlib.Core.List.{List, [], _∷_}
@@ -16,11 +16,11 @@ part-most at buf h o =
     ⊎-elim (λ l. omega arith) (λ e. omega arith) o
 
 pub lengths :
-    {a b c d e f g : ℕ} → a ≤ failed → b ≤ failed → c ≤ failed → d ≤ failed → e ≤ failed → f ≤ failed → g ≤ failed
-    → Lengths (a ∷ b ∷ c ∷ d ∷ e ∷ f ∷ g ∷ [])
-lengths {a} {b} {c} {d} {e} {f} {g} la lb lc ld le lf lg = record { most = at }
+    {a b c d e f g h : ℕ} → a ≤ failed → b ≤ failed → c ≤ failed → d ≤ failed → e ≤ failed → f ≤ failed → g ≤ failed → h ≤ failed
+    → Lengths (a ∷ b ∷ c ∷ d ∷ e ∷ f ∷ g ∷ h ∷ [])
+lengths {a} {b} {c} {d} {e} {f} {g} {h} la lb lc ld le lf lg lh = record { most = at }
   where
-    at : (i : ℕ) → getD (a ∷ b ∷ c ∷ d ∷ e ∷ f ∷ g ∷ []) i 0 ≤ failed
+    at : (i : ℕ) → getD (a ∷ b ∷ c ∷ d ∷ e ∷ f ∷ g ∷ h ∷ []) i 0 ≤ failed
     at zero = la
     at (suc zero) = lb
     at (suc (suc zero)) = lc
@@ -28,4 +28,5 @@ lengths {a} {b} {c} {d} {e} {f} {g} la lb lc ld le lf lg = record { most = at }
     at (suc (suc (suc (suc zero)))) = le
     at (suc (suc (suc (suc (suc zero))))) = lf
     at (suc (suc (suc (suc (suc (suc zero)))))) = lg
-    at (suc (suc (suc (suc (suc (suc (suc i))))))) = omega arith
+    at (suc (suc (suc (suc (suc (suc (suc zero))))))) = lh
+    at (suc (suc (suc (suc (suc (suc (suc (suc i)))))))) = omega arith

@@ -1,4 +1,4 @@
-// What the box's programs share: the seven files of the working directory, read into one room. An absent file is an empty one. Where a
+// What the box's programs share: the eight files of the working directory, read into one room. An absent file is an empty one. Where a
 // file is there and can't be read whole, the reason goes to standard error.
 use judge::line::BIG;
 use record::cut::part;
@@ -82,6 +82,7 @@ pub fn load_files(room: &mut [u8]) -> [usize; FILES]
         load_part(b"TRAMO", room, 4),
         load_part(b"VERTICE", room, 5),
         load_part(b"NODO", room, 6),
+        load_part(b"OB_COMP", room, 7),
     ]
 }
 
@@ -111,5 +112,6 @@ pub fn files_in<'a>(room: &'a [u8], lens: [usize; FILES]) -> [&'a [u8]; FILES]
         part(room, ROOM * 4, lens[4]),
         part(room, ROOM * 5, lens[5]),
         part(room, ROOM * 6, lens[6]),
+        part(room, ROOM * 7, lens[7]),
     ]
 }

@@ -1,4 +1,4 @@
-// The box's second program: reads the seven files from the working directory and prints the grid of all breaks, one row a file. Where a
+// The box's second program: reads the eight files from the working directory and prints the grid of all breaks, one row a file. Where a
 // file can't be read, no row is printed.
 use folder::ALL;
 use folder::any_failed;

@@ -89,7 +89,7 @@ same-or x y = go (eqb x y) refl
     go false e = inr (eqb-false x y e)
 
 -- LOOPS: at the start,
-pub fill-start : (f : ℕ → ℕ → ℕ) → Filling f (replicate 7 (replicate 5 0)) 0 0
+pub fill-start : (f : ℕ → ℕ → ℕ) → Filling f (replicate fileCount (replicate groups 0)) 0 0
 unfolding row
 fill-start f =
     record {

@@ -1,7 +1,7 @@
 -- The grid as the code fills it, the lowest ten that has a break, and the grid's total.
 -- Assumes nothing.
 use Prim.Native.Nat.{ℕ, zero, suc, _+_, _-_, _<_, _≤_}
-use mathlib.Core.Bool.{Bool, true, false}
+use mathlib.Core.Bool.{Bool, true, false, not, _&&_, _||_}
 use mathlib.Core.List.{List, [], _∷_, map}
 use mathlib.Core.Option.{Option, none, some}
 use mathlib.Core.Path.{_≡_, refl, sym, ap, ap₂, _∙_}
@@ -10,13 +10,13 @@ use native.Mathlib.Nat.{le-of-suc-le-suc, not-suc-le-zero, eq-or-lt-of-le}
 use native.Mathlib.Omega.{arith}
 use lib.Dec.{ltb, eqb}
 use lib.ListN.{length, getD, replicate, length-map}
-use borrow.Author.Tests.{ltb-true, ltb-false, lt-ltb, eqb-true, eq-eqb, ne-eqb}
-use Rattle.laws.specs.Find.{any, firstIndex}
+use borrow.Author.Tests.{ltb-true, ltb-false, lt-ltb, eqb-true, eq-eqb, ne-eqb, not-false}
+use Rattle.laws.specs.Find.{any, firstIndex, firstOf}
 use Rattle.laws.specs.Count.{bit, sumOf, total}
 use Rattle.laws.specs.Nest.{one, many}
 use Rattle.laws.specs.Row.{pick, row}
 use Rattle.laws.proofs.FindLaws.{index-here, index-none, index-none-at, index-some-at, any-at, any-no}
-use Rattle.laws.proofs.RowLaws.{row-same, row-at, length-row}
+use Rattle.laws.proofs.RowLaws.{and-true, row-same, row-at, length-row}
 use Rattle.laws.proofs.SumLaws.{sum-none, sum-no, sum-one, total-row}
 use Rattle.index.specs.declared.tally.Tally.{Tally}
 use Rattle.index.specs.Tally.{noTally}
@@ -25,16 +25,17 @@ use Rattle.record.specs.declared.kind.Kind.the-variants.{Catalogo}
 use Rattle.record.specs.declared.kind.Which.{Which}
 use Rattle.record.specs.declared.kind.Which.the-variants.{NoFile, File}
 use Rattle.record.specs.Table.{fileOf, fileCount, whichOf, onFile, kinds}
-use Rattle.record.specs.Files.{Files}
+use Rattle.record.specs.Files.{Files, deliveryOf}
 use Rattle.record.specs.Rules.{breaks10}
 use Rattle.record.specs.machinery.Counts.{shapeMany, fieldsMany}
-use Rattle.record.proofs.TableLaws.{sane, kind-at, which-file, NoneOf, numbers, default-at}
+use Rattle.record.proofs.TableLaws.{sane, kind-at, which-file, NoneOf, numbers}
+use Rattle.fifties.proofs.FiftyLaws.{plain, end, other, else-default}
 use Rattle.keys.specs.Rules.{orFirst}
-use Rattle.judge.specs.Broken.{groups, testsOf, breaksIn, atWhich, breaksOf}
-use Rattle.grids.specs.Grid.{lowest, cellOf, gridOf}
+use Rattle.judge.specs.Broken.{groups, lastTen, isThere, saidTests, testsOf, breaksIn, atWhich, breaksOf}
+use Rattle.grids.specs.Grid.{tenOf, lowest, cellOf, gridOf}
 use Rattle.grids.specs.machinery.Counted.{countedIn, countedOf, columnOf}
 use Rattle.grids.proofs.FillLaws.{list-same, Shaped, shaped-row}
-use Rattle.grids.proofs.TenLaws.{shape-many, fields-many, thirties-many, forties-many, fifties-many, tests-none}
+use Rattle.grids.proofs.TenLaws.{shape-many, fields-many, thirties-many, forties-many, fifties-many, seventies-many, tests-none}
 
 zero-is : (x : ℕ) → ltb 0 x ≡ false → x ≡ 0
 zero-is x e = let l = ltb-false 0 x e in omega arith
@@ -59,9 +60,39 @@ unfolding total
 total-rows r n [] same = refl
 total-rows r n (x ∷ xs) same = ap₂ (λ (a b : ℕ). a + b) (same x) (total-rows r n xs same)
 
+-- COLUMNS AND TENS: the column of a ten, which is the only one that has it, and each ten with reasons has one
+columnFor : ℕ → ℕ
+columnFor t = pick (eqb t 7) 5 (t - 1)
+
+columns-all : any (λ g. not (ltb 0 (tenOf g) && eqb (columnFor (tenOf g)) g)) groups ≡ false
+unfolding any firstIndex firstOf columnFor
+columns-all = refl
+
+column-ten : (g : ℕ) → g < groups → (0 < tenOf g) × (columnFor (tenOf g) ≡ g)
+column-ten g l =
+    let e = and-true _ _ (not-false _ (any-no (λ g. not (ltb 0 (tenOf g) && eqb (columnFor (tenOf g)) g)) groups columns-all l)) in
+    (ltb-true _ _ (e .0), eqb-true _ _ (e .1))
+
+abbrev columned : ℕ → Bool
+columned t = ltb (columnFor t) groups && eqb (tenOf (columnFor t)) t
+
+tens-all : any (λ t. not (eqb t 0 || eqb t 6 || columned t)) (lastTen + 1) ≡ false
+unfolding any firstIndex firstOf columnFor
+tens-all = refl
+
+ten-column : (t : ℕ) → t < lastTen + 1 → (t ≡ 0 → ⊥) → (t ≡ 6 → ⊥) → (columnFor t < groups) × (tenOf (columnFor t) ≡ t)
+ten-column t l h g =
+    let e : (eqb t 0 || eqb t 6 || columned t) ≡ true = not-false _ (any-no (λ t. not (eqb t 0 || eqb t 6 || columned t)) (lastTen + 1) tens-all l) in
+    let w = and-true (ltb (columnFor t) groups) (eqb (tenOf (columnFor t)) t) (rw (ne-eqb t 0 h, ne-eqb t 6 g) at e) in
+    (ltb-true _ _ (w .0), eqb-true _ _ (w .1))
+
+none-picked : (b : Bool) (u : ℕ) → getD (pick b [] []) u false ≡ false
+none-picked true u = refl
+none-picked false u = refl
+
 -- WHAT THE LOOPS FILL: a cell of a column, the numbers of tallies, those of the files' shapes or fields
 abbrev pub columnCell : ℕ → List ℕ → ℕ → ℕ → ℕ
-columnCell t counts i g = pick (eqb (g + 1) t) (getD counts i 0) 0
+columnCell t counts i g = pick (eqb (tenOf g) t) (getD counts i 0) 0
 
 abbrev pub manyAt : List Tally → ℕ → ℕ
 manyAt tallies i = getD tallies i noTally .many
@@ -108,45 +139,49 @@ module _ (files : Files) where
   unfolding many breaksOf sumOf whichOf total
   ten-total t = omega arith
 
-  -- no reason has the ten 0
+  -- no reason that can be broken has the ten 0 or 6
   pub zero-none : (k : Kind) → many (breaksIn files 0 k) ≡ 0
   unfolding testsOf
   zero-none k = tests-none files 0 k (λ i f u l. refl)
 
+  six-none : (k : Kind) → many (breaksIn files 6 k) ≡ 0
+  unfolding testsOf saidTests
+  six-none k = tests-none files 6 k (λ i f u l. none-picked (isThere (deliveryOf files k .count) k i f) u)
+
   -- THE LOWEST TEN that has a break: there is none,
-  pub lowest-none : ((t : ℕ) → t < groups + 1 → many (breaksOf files t) ≡ 0) → lowest files ≡ 0
+  pub lowest-none : ((t : ℕ) → t < lastTen + 1 → many (breaksOf files t) ≡ 0) → lowest files ≡ 0
   unfolding lowest
   lowest-none quiet =
-      ap orFirst (index-none (λ t. ltb 0 (many (breaksOf files t))) (groups + 1) (λ t l. rw (quiet t l)))
+      ap orFirst (index-none (λ t. ltb 0 (many (breaksOf files t))) (lastTen + 1) (λ t l. rw (quiet t l)))
 
   -- or it is t,
-  pub lowest-at : (t : ℕ) → t < groups + 1 → ((t' : ℕ) → t' < t → many (breaksOf files t') ≡ 0) → 0 < many (breaksOf files t) → lowest files ≡ t
+  pub lowest-at : (t : ℕ) → t < lastTen + 1 → ((t' : ℕ) → t' < t → many (breaksOf files t') ≡ 0) → 0 < many (breaksOf files t) → lowest files ≡ t
   unfolding lowest
   lowest-at t l below h =
       ap orFirst
-      (index-here (λ t. ltb 0 (many (breaksOf files t))) (groups + 1)
+      (index-here (λ t. ltb 0 (many (breaksOf files t))) (lastTen + 1)
       (index-none (λ t. ltb 0 (many (breaksOf files t))) t (λ t' b. rw (below t' b))) l (lt-ltb 0 _ h))
 
-  lowest-some : (t : ℕ) → firstIndex (λ t. ltb 0 (many (breaksOf files t))) (groups + 1) ≡ some t → lowest files ≡ t
+  lowest-some : (t : ℕ) → firstIndex (λ t. ltb 0 (many (breaksOf files t))) (lastTen + 1) ≡ some t → lowest files ≡ t
   unfolding lowest
   lowest-some t e = ap orFirst e
 
   -- and these are all
   pub record Lowest : Type 0 where
-    pub within : lowest files < groups + 1
+    pub within : lowest files < lastTen + 1
     pub below : (t : ℕ) → t < lowest files → many (breaksOf files t) ≡ 0
     pub has : 0 < many (breaksOf files (lowest files))
 
-  pub lowest-is : ((lowest files ≡ 0) × ((t : ℕ) → t < groups + 1 → many (breaksOf files t) ≡ 0)) ⊎ Lowest
-  lowest-is = go (firstIndex (λ t. ltb 0 (many (breaksOf files t))) (groups + 1)) refl
+  pub lowest-is : ((lowest files ≡ 0) × ((t : ℕ) → t < lastTen + 1 → many (breaksOf files t) ≡ 0)) ⊎ Lowest
+  lowest-is = go (firstIndex (λ t. ltb 0 (many (breaksOf files t))) (lastTen + 1)) refl
     where
-      go : (o : Option ℕ) → firstIndex (λ t. ltb 0 (many (breaksOf files t))) (groups + 1) ≡ o → ((lowest files ≡ 0) × ((t : ℕ) → t < groups + 1 → many (breaksOf files t) ≡ 0)) ⊎ Lowest
+      go : (o : Option ℕ) → firstIndex (λ t. ltb 0 (many (breaksOf files t))) (lastTen + 1) ≡ o → ((lowest files ≡ 0) × ((t : ℕ) → t < lastTen + 1 → many (breaksOf files t) ≡ 0)) ⊎ Lowest
       go none e =
-          let all : (t : ℕ) → t < groups + 1 → many (breaksOf files t) ≡ 0 =
-          λ t l. zero-is (many (breaksOf files t)) (index-none-at (λ t. ltb 0 (many (breaksOf files t))) (groups + 1) e l) in
+          let all : (t : ℕ) → t < lastTen + 1 → many (breaksOf files t) ≡ 0 =
+          λ t l. zero-is (many (breaksOf files t)) (index-none-at (λ t. ltb 0 (many (breaksOf files t))) (lastTen + 1) e l) in
           inl (lowest-none all, all)
       go (some t) e =
-          let w = index-some-at (λ t. ltb 0 (many (breaksOf files t))) (groups + 1) e in
+          let w = index-some-at (λ t. ltb 0 (many (breaksOf files t))) (lastTen + 1) e in
           let q = lowest-some t e in
           inr
           (record {
@@ -164,7 +199,7 @@ module _ (files : Files) where
       go true h = absurd (let z : _≡_ {A = ℕ} 1 0 = h in omega arith)
       go false h = refl
 
-  pub counted-is : (t : ℕ) (k : Kind) → t < groups + 1 → ((t' : ℕ) → t' < t → many (breaksOf files t') ≡ 0) → countedIn files t k ≡ many (breaksIn files t k)
+  pub counted-is : (t : ℕ) (k : Kind) → t < lastTen + 1 → ((t' : ℕ) → t' < t → many (breaksOf files t') ≡ 0) → countedIn files t k ≡ many (breaksIn files t k)
   unfolding countedIn
   counted-is zero k l below = sym (zero-none k)
   counted-is (suc zero) k l below = shape-many files k
@@ -172,15 +207,17 @@ module _ (files : Files) where
   counted-is (suc (suc (suc zero))) k l below = thirties-many files k
   counted-is (suc (suc (suc (suc zero)))) k l below = forties-many files k
   counted-is (suc (suc (suc (suc (suc zero))))) k l below = fifties-many files k
-  counted-is (suc (suc (suc (suc (suc (suc t)))))) k l below = absurd (omega arith)
+  counted-is (suc (suc (suc (suc (suc (suc zero)))))) k l below = sym (six-none k)
+  counted-is (suc (suc (suc (suc (suc (suc (suc zero))))))) k l below = seventies-many files k
+  counted-is (suc (suc (suc (suc (suc (suc (suc (suc t)))))))) k l below = absurd (omega arith)
 
   -- THE GRID by rows and columns
-  pub grid-row : gridOf files ≡ row (λ i. row (λ g. cellOf files (getD kinds i Catalogo) (g + 1)) groups) fileCount
+  pub grid-row : gridOf files ≡ row (λ i. row (λ g. cellOf files (getD kinds i Catalogo) (tenOf g)) groups) fileCount
   unfolding gridOf row
   grid-row = refl
 
   pub shaped-grid : Shaped (gridOf files)
-  shaped-grid = rw grid-row (shaped-row (λ i g. cellOf files (getD kinds i Catalogo) (g + 1)))
+  shaped-grid = rw grid-row (shaped-row (λ i g. cellOf files (getD kinds i Catalogo) (tenOf g)))
 
   counted-at : (t i : ℕ) → i < fileCount → getD (countedOf files t) i 0 ≡ countedIn files t (getD kinds i Catalogo)
   unfolding countedOf
@@ -214,15 +251,15 @@ module _ (files : Files) where
   column-is t e same =
       row-same _ _ fileCount
       (λ i l. row-same _ _ groups
-      (λ g _. ap (λ (n : ℕ). pick (eqb (g + 1) t) n 0) (counted-at t i l ∙ same (getD kinds i Catalogo)) ∙ cell g (getD kinds i Catalogo) (eqb (g + 1) t) refl))
+      (λ g _. ap (λ (n : ℕ). pick (eqb (tenOf g) t) n 0) (counted-at t i l ∙ same (getD kinds i Catalogo)) ∙ cell (tenOf g) (getD kinds i Catalogo) (eqb (tenOf g) t) refl))
       ∙ sym grid-row
     where
-      cell : (g : ℕ) (k : Kind) (b : Bool) → eqb (g + 1) t ≡ b → pick b (many (breaksIn files t k)) 0 ≡ pick (eqb (g + 1) (lowest files)) (many (breaksIn files (g + 1) k)) 0
-      cell g k true h = let q = eqb-true (g + 1) t h in rw (e, h, q)
-      cell g k false h = rw (e, h)
+      cell : (v : ℕ) (k : Kind) (b : Bool) → eqb v t ≡ b → pick b (many (breaksIn files t k)) 0 ≡ pick (eqb v (lowest files)) (many (breaksIn files v k)) 0
+      cell v k true h = let q = eqb-true v t h in rw (e, h, q)
+      cell v k false h = rw (e, h)
 
   -- and of zeros where there is none
-  pub zeros-are : lowest files ≡ 0 → replicate 7 (replicate 5 0) ≡ gridOf files
+  pub zeros-are : lowest files ≡ 0 → replicate fileCount (replicate groups 0) ≡ gridOf files
   unfolding gridOf cellOf row
   zeros-are e = rw e
 
@@ -230,28 +267,31 @@ module _ (files : Files) where
   pub first-ten : Lowest → 1 ≤ lowest files
   first-ten w = positive (lowest files) (λ z. let n = in-files 0 zero-none in let h = ap (λ (t : ℕ). many (breaksOf files t)) z in let p = w .has in omega arith)
 
+  -- nor 6
+  not-six : Lowest → lowest files ≡ 6 → ⊥
+  not-six w z = let n = in-files 6 six-none in let h = ap (λ (t : ℕ). many (breaksOf files t)) z in let p = w .has in omega arith
+
   -- ITS TOTAL is the number of the lowest ten's breaks
-  row-total : (k : Kind) → total (row (λ g. cellOf files k (g + 1)) groups) ≡ many (breaksIn files (lowest files) k)
+  row-total : (k : Kind) → total (row (λ g. cellOf files k (tenOf g)) groups) ≡ many (breaksIn files (lowest files) k)
   unfolding cellOf
-  row-total k = total-row (λ g. cellOf files k (g + 1)) groups ∙ ⊎-elim quiet here lowest-is
+  row-total k = total-row (λ g. cellOf files k (tenOf g)) groups ∙ ⊎-elim quiet here lowest-is
     where
-      quiet : (lowest files ≡ 0) × ((t : ℕ) → t < groups + 1 → many (breaksOf files t) ≡ 0) → sumOf (λ g. cellOf files k (g + 1)) groups ≡ many (breaksIn files (lowest files) k)
+      quiet : (lowest files ≡ 0) × ((t : ℕ) → t < lastTen + 1 → many (breaksOf files t) ≡ 0) → sumOf (λ g. cellOf files k (tenOf g)) groups ≡ many (breaksIn files (lowest files) k)
       quiet w =
-          sum-none _ groups (λ g _. rw (w .0, ne-eqb (g + 1) 0 (λ (q : g + 1 ≡ 0). omega arith)))
+          sum-none _ groups (λ g l. rw (w .0, ne-eqb (tenOf g) 0 (λ (q : tenOf g ≡ 0). omega (arith, column-ten g l .0))))
           ∙ sym (ap (λ (t : ℕ). many (breaksIn files t k)) (w .0) ∙ zero-none k)
 
-      here : Lowest → sumOf (λ g. cellOf files k (g + 1)) groups ≡ many (breaksIn files (lowest files) k)
+      here : Lowest → sumOf (λ g. cellOf files k (tenOf g)) groups ≡ many (breaksIn files (lowest files) k)
       here w =
           let low : 1 ≤ lowest files = first-ten w in
-          let l = w .within in
-          let q : lowest files - 1 + 1 ≡ lowest files = omega arith in
-          sum-one (λ g. cellOf files k (g + 1)) groups {k = lowest files - 1} (omega arith)
-          (λ g _ ne. rw (ne-eqb (g + 1) (lowest files) (λ (z : g + 1 ≡ lowest files). ne (omega arith))))
-          ∙ rw (q, eq-eqb (lowest files) (lowest files) refl)
+          let c = ten-column (lowest files) (w .within) (λ z. omega arith) (not-six w) in
+          sum-one (λ g. cellOf files k (tenOf g)) groups {k = columnFor (lowest files)} (c .0)
+          (λ g l ne. rw (ne-eqb (tenOf g) (lowest files) (λ (z : tenOf g ≡ lowest files). ne (sym (column-ten g l .1) ∙ ap columnFor z))))
+          ∙ rw (c .1, eq-eqb (lowest files) (lowest files) refl)
 
   pub grid-total : total (map total (gridOf files)) ≡ many (breaksOf files (lowest files))
   unfolding gridOf
-  grid-total = total-rows (λ k. row (λ g. cellOf files k (g + 1)) groups) _ kinds row-total ∙ sym (ten-total (lowest files))
+  grid-total = total-rows (λ k. row (λ g. cellOf files k (tenOf g)) groups) _ kinds row-total ∙ sym (ten-total (lowest files))
 
   -- LOOPS over the tens: those before t have no break. At the start,
   abbrev pub Quiet : ℕ → Type 0
@@ -260,7 +300,7 @@ module _ (files : Files) where
   pub quiet-start : Quiet 1
   quiet-start t l = let e : t ≡ 0 = omega arith in rw e (in-files 0 zero-none)
 
-  module _ {t : ℕ} (below : Quiet t) (l : t < groups + 1) where
+  module _ {t : ℕ} (below : Quiet t) (l : t < lastTen + 1) where
     same : (k : Kind) → countedIn files t k ≡ many (breaksIn files t k)
     same k = counted-is t k l below
 
@@ -277,14 +317,24 @@ module _ (files : Files) where
     quiet-here e = column-is t (lowest-at t l below (some-counted t same e)) same
 
   -- and after all
-  pub quiet-end : {t : ℕ} → Quiet t → groups < t → replicate 7 (replicate 5 0) ≡ gridOf files
+  pub quiet-end : {t : ℕ} → Quiet t → lastTen < t → replicate fileCount (replicate groups 0) ≡ gridOf files
   quiet-end {t} below l = zeros-are (lowest-none (λ t' u. below t' (omega arith)))
 
   -- A NUMBER that is no ten's has no counts
-  else-zero : (t : ℕ) → NoneOf (numbers 1 groups) t → (k : Kind) → 0 ≡ countedIn files t k
+  else-zero : (t : ℕ) → NoneOf (7 ∷ numbers 1 5) t → (k : Kind) → 0 ≡ countedIn files t k
   unfolding countedIn
-  else-zero t o k = default-at 0 1 (_ ∷ _ ∷ _ ∷ _ ∷ _ ∷ []) t o
+  else-zero t o k =
+      sym
+      (else-default
+      (plain
+      (other (o .0 .0 .0 .0 .0 .1)
+      (other (o .0 .0 .0 .0 .1)
+      (other (o .0 .0 .0 .1)
+      (other (o .0 .0 .1)
+      (other (o .0 .1)
+      (plain
+      (other (o .1) end)))))))))
 
-  pub counted-else : (t : ℕ) → NoneOf (numbers 1 groups) t → replicate 7 0 ≡ countedOf files t
+  pub counted-else : (t : ℕ) → NoneOf (7 ∷ numbers 1 5) t → replicate fileCount 0 ≡ countedOf files t
   unfolding countedOf
   counted-else t o = map-same (λ k. 0) (countedIn files t) kinds (else-zero t o)

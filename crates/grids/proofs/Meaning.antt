@@ -27,7 +27,7 @@ use Rattle.record.specs.Table.{fileOf, fileCount, whichOf}
 use Rattle.record.specs.Files.{Files}
 use Rattle.record.specs.Breaks.{numberOf}
 use Rattle.record.proofs.TableLaws.{sane, file-same, which-file}
-use Rattle.judge.specs.Broken.{groups, holds, IsBroken, breaksIn, atWhich, breaksOf, breaks, First, Finds}
+use Rattle.judge.specs.Broken.{groups, lastTen, holds, IsBroken, breaksIn, atWhich, breaksOf, breaks, First, Finds}
 use Rattle.judge.specs.Verdict.{judged, verdictOf}
 use Rattle.judge.proofs.Exact.{stands, stood, accepted-plainly, exact}
 use Rattle.grids.specs.Grid.{lowest, cellOf, gridOf}
@@ -41,10 +41,10 @@ tail-same n p q e = ap (drop 1) e
 
 module _ (files : Files) where
   -- A TEST that holds is a break of its ten and file
-  holds-stands : (n : ℕ) (k : Kind) (i f : ℕ) → holds files n k i f ≡ true → (b : Break) × (n / 10 < groups + 1) × (at (breaksOf files (n / 10)) (fileOf k ∷ i ∷ f ∷ n % 10 ∷ []) ≡ some b)
+  holds-stands : (n : ℕ) (k : Kind) (i f : ℕ) → holds files n k i f ≡ true → (b : Break) × (n / 10 < lastTen + 1) × (at (breaksOf files (n / 10)) (fileOf k ∷ i ∷ f ∷ n % 10 ∷ []) ≡ some b)
   unfolding breaks
   holds-stands n k i f e =
-      let w = at-some (groups + 1) (λ t. breaksOf files t) (n / 10) _ (stood files n k i f e) in
+      let w = at-some (lastTen + 1) (λ t. breaksOf files t) (n / 10) _ (stood files n k i f e) in
       (_, w .0, w .1)
 
   holds-many : (n : ℕ) (k : Kind) (i f : ℕ) → holds files n k i f ≡ true → 0 < many (breaksOf files (n / 10))
@@ -93,9 +93,9 @@ module _ (files : Files) where
           go true e = absurd (let p = holds-many n' k' i' f' e in omega arith)
           go false e = refl
 
-  in-breaks : (q : List ℕ) → lowest files < groups + 1 → at (breaks files) (lowest files ∷ q) ≡ at (breaksOf files (lowest files)) q
+  in-breaks : (q : List ℕ) → lowest files < lastTen + 1 → at (breaks files) (lowest files ∷ q) ≡ at (breaksOf files (lowest files)) q
   unfolding breaks
-  in-breaks q l = at-within (groups + 1) (λ t. breaksOf files t) (lowest files) q l
+  in-breaks q l = at-within (lastTen + 1) (λ t. breaksOf files t) (lowest files) q l
 
   -- THE LIST of all breaks
   listOf : List (List ℕ)
@@ -109,7 +109,7 @@ module _ (files : Files) where
   unfolding listOf
   list-broken p h = ⊎-elim quiet here (lowest-is files)
     where
-      quiet : (lowest files ≡ 0) × ((t : ℕ) → t < groups + 1 → many (breaksOf files t) ≡ 0) → (n : ℕ) × (k : Kind) × (i : ℕ) × (f : ℕ) × (p ≡ breakAt n k i f) × IsBroken files n k i f
+      quiet : (lowest files ≡ 0) × ((t : ℕ) → t < lastTen + 1 → many (breaksOf files t) ≡ 0) → (n : ℕ) × (k : Kind) × (i : ℕ) × (f : ℕ) × (p ≡ breakAt n k i f) × IsBroken files n k i f
       quiet w =
           let a = map-in (λ q. lowest files ∷ q) (placesIn (breaksOf files (lowest files))) h in
           let b = place-stands (breaksOf files (lowest files)) (a .0) (a .1) in
@@ -193,7 +193,7 @@ module _ (files : Files) where
   other-tens-zero k t ne = rw (ne-eqb t (lowest files) ne)
 
   -- IT IS ZERO exactly if the delivery is accepted
-  no-test : ((t : ℕ) → t < groups + 1 → many (breaksOf files t) ≡ 0) → (n : ℕ) (k : Kind) (i f : ℕ) → holds files n k i f ≡ false
+  no-test : ((t : ℕ) → t < lastTen + 1 → many (breaksOf files t) ≡ 0) → (n : ℕ) (k : Kind) (i f : ℕ) → holds files n k i f ≡ false
   no-test quiet n k i f = go (holds files n k i f) refl
     where
       go : (b : Bool) → holds files n k i f ≡ b → b ≡ false
@@ -237,7 +237,7 @@ module _ (files : Files) where
   cell-most : (k : Kind) → many (breaksIn files (lowest files) k) ≤ mostInCell
   cell-most k = ⊎-elim quiet here (lowest-is files)
     where
-      quiet : (lowest files ≡ 0) × ((t : ℕ) → t < groups + 1 → many (breaksOf files t) ≡ 0) → many (breaksIn files (lowest files) k) ≤ mostInCell
+      quiet : (lowest files ≡ 0) × ((t : ℕ) → t < lastTen + 1 → many (breaksOf files t) ≡ 0) → many (breaksIn files (lowest files) k) ≤ mostInCell
       quiet w = let z = in-file files (lowest files) k (w .1 (lowest files) (let e = w .0 in omega arith)) in omega arith
 
       here : Lowest files → many (breaksIn files (lowest files) k) ≤ mostInCell

@@ -85,7 +85,7 @@ writing-row {grid} {bytes} {at} {i} {g} l u w =
           ∙ sym (append-nil (strung (rowText grid) (i + 1)));
     }
 
-pub writing-end : {grid : Grid} {bytes : List ℕ} {at i : ℕ} → i ≤ fileCount → fileCount ≤ i → Writing grid bytes at i 0 → record { len = 385; bytes = bytes } ≡ rowsIn (rowsText grid)
+pub writing-end : {grid : Grid} {bytes : List ℕ} {at i : ℕ} → i ≤ fileCount → fileCount ≤ i → Writing grid bytes at i 0 → record { len = rowsRoom; bytes = bytes } ≡ rowsIn (rowsText grid)
 unfolding rowsIn rowsText strung
 writing-end {grid} {bytes} {at} {i} l u w =
     let q : i ≡ fileCount = omega arith in

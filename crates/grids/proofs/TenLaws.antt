@@ -33,6 +33,8 @@ use Rattle.keys.specs.machinery.Cells.{cellTest, tallyIn, keyTally}
 use Rattle.keys.specs.Rules.{keyTests}
 use Rattle.topology.specs.Rules.{fifties}
 use Rattle.fifties.specs.machinery.Cells.{fiftyTally}
+use Rattle.objects.specs.Rules.{seventies}
+use Rattle.objects.specs.machinery.Cells.{seventyTally}
 use Rattle.judge.specs.Broken.{isThere, saidTests, testsOf, breaksIn}
 
 min-under : (a b : ℕ) → min a b ≤ b
@@ -110,7 +112,7 @@ tally-placed tests k n =
     (λ i _. sum-tens (λ c. bit (cellTest tests i c)) (fieldsOf k + 1)
     ∙ sum-same _ _ (fieldsOf k + 1) (λ f _. sum-same _ _ 10 (λ u l. ap bit (cell-at tests i f u l))))
 
--- OF EACH TEN, in a file: 30 to 57 by tallies,
+-- OF EACH TEN, in a file: from 30 on by tallies,
 said-many :
     (files : Files) (t : ℕ) (k : Kind) (tests : Tests)
     → ((i f : ℕ) → testsOf files t k i f ≡ pick (isThere (deliveryOf files k .count) k i f) (tests (i - 1) f) [])
@@ -132,6 +134,10 @@ forties-many files k = said-many files 4 k (keyTests 4 (deliveryOf files) k) (λ
 pub fifties-many : (files : Files) (k : Kind) → fiftyTally (deliveryOf files) k .many ≡ many (breaksIn files 5 k)
 unfolding fiftyTally testsOf saidTests
 fifties-many files k = said-many files 5 k (fifties (deliveryOf files) k) (λ i f. refl)
+
+pub seventies-many : (files : Files) (k : Kind) → seventyTally (deliveryOf files) k .many ≡ many (breaksIn files 7 k)
+unfolding seventyTally testsOf saidTests
+seventies-many files k = said-many files 7 k (seventies (deliveryOf files) k) (λ i f. refl)
 
 -- 20 to 25 in the records of a file that is not too long,
 record-placed : (s : List ℕ) (k : Kind) (i : ℕ) → recordMany (recordOf s k i) k ≡ placed (λ j f. twenties (recordOf s k j) k f) k i

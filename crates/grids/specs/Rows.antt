@@ -1,7 +1,7 @@
--- What the program `grid` prints (document 02, W-201): one row a file, five counts of ten digits with single blanks between; or the
+-- What the program `grid` prints (document 02, W-201): one row a file, six counts of ten digits with single blanks between; or the
 -- verdict program's BIG line.
 -- Assumes nothing.
-use Prim.Native.Nat.{ℕ, _+_, _-_}
+use Prim.Native.Nat.{ℕ, _+_, _-_, _*_}
 use mathlib.Core.List.{List, [], _∷_, _++_}
 use lib.Dec.{eqb}
 use lib.ListN.{length, replicate}
@@ -33,7 +33,7 @@ programRows files = orBig (λ all. rowsText (gridOf all)) files
 
 -- in the hand of the program: their length, and their bytes at the start of an array, in which those past them are 0
 abbrev pub rowsRoom : ℕ
-rowsRoom = 385
+rowsRoom = fileCount * groups * 11
 
 unfoldable pub rowsIn : List ℕ → Rows
 rowsIn s = record { len = length s; bytes = s ++ replicate (rowsRoom - length s) 0 }

@@ -2,7 +2,9 @@
 use fifties::group::tally_topology;
 use index::tally::Tally;
 use judge::judge::GROUPS;
+use judge::judge::LAST_TEN;
 use keys::group::tally_keys;
+use objects::group::tally_objects;
 use record::count::count_fields;
 use record::count::count_shape;
 use record::files::file_of;
@@ -12,7 +14,7 @@ use record::kind::Which;
 use record::kind::kind_of;
 ghost use mathlib.Core.Path.{_≡_};
 ghost use mathlib.Core.List.{List, map};
-ghost use Prim.Native.Nat.{ℕ, _+_};
+ghost use Prim.Native.Nat.{ℕ};
 ghost use lib.Dec.{ltb, eqb};
 ghost use lib.ListN.{getD};
 ghost use Rattle.laws.specs.Find.{any};
@@ -20,7 +22,7 @@ ghost use Rattle.laws.specs.Row.{pick};
 ghost use Rattle.record.specs.Table.{onFile, fileCount};
 ghost use Rattle.record.specs.Files.{filesOf};
 ghost use Rattle.record.specs.machinery.Counts.{shapeMany, fieldsMany};
-ghost use Rattle.grids.specs.Grid.{gridOf};
+ghost use Rattle.grids.specs.Grid.{tenOf, gridOf};
 ghost use Rattle.grids.specs.machinery.Counted.{countedOf, columnOf};
 
 // How many breaks of its shape a file has, or of its fields.
@@ -80,6 +82,7 @@ fn count_ten<'a>(t: usize, files: [&'a [u8]; FILES]) -> [u64; FILES]
         3 => many_of(tally_keys(3, files)),
         4 => many_of(tally_keys(4, files)),
         5 => many_of(tally_topology(files)),
+        7 => many_of(tally_objects(files)),
         _ => [0u64; FILES],
     }
 }
@@ -98,15 +101,26 @@ fn has_any(counts: [u64; FILES]) -> bool
     false
 }
 
+// The ten of a column, and 0 past the last.
+fn ten_of(g: usize) -> usize
+    ensures { λ r. ⌜ r ≡ tenOf g ⌝ }
+{
+    match g {
+        0 => 1,
+        1 => 2,
+        2 => 3,
+        3 => 4,
+        4 => 5,
+        5 => 7,
+        _ => 0,
+    }
+}
+
 // A count in the column of its ten, 0 in the others.
 fn cell_in(t: usize, g: usize, n: u64) -> u64
-    ensures { λ r. ⌜ r ≡ pick (eqb (g + 1) t) n 0 ⌝ }
+    ensures { λ r. ⌜ r ≡ pick (eqb (tenOf g) t) n 0 ⌝ }
 {
-    if 0 < t {
-        if g == t - 1 { n } else { 0 }
-    } else {
-        0
-    }
+    if ten_of(g) == t { n } else { 0 }
 }
 
 // A grid with the counts in the column of the ten t.
@@ -126,13 +140,13 @@ fn column(t: usize, counts: [u64; FILES]) -> [[u64; GROUPS]; FILES]
     grid
 }
 
-// The grid of a delivery: seven files, in any state; an absent one is empty. Tens are counted in their order, up to the first that has a
+// The grid of a delivery: eight files, in any state; an absent one is empty. Tens are counted in their order, up to the first that has a
 // break.
 pub fn grid_of<'a>(files: [&'a [u8]; FILES]) -> [[u64; GROUPS]; FILES]
     ensures { λ r. ⌜ r ≡ gridOf (filesOf (map now (files .entry))) ⌝ }
 {
     let mut t = 1;
-    while t <= GROUPS {
+    while t <= LAST_TEN {
         let counts = count_ten(t, files);
         if has_any(counts) {
             return column(t, counts);

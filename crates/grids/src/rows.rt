@@ -1,4 +1,4 @@
-// What the program `grid` prints: one row a file, five counts of ten digits; or the verdict program's BIG line.
+// What the program `grid` prints: one row a file, six counts of ten digits; or the verdict program's BIG line.
 use crate::grid::grid_of;
 use field::number::put_number;
 use judge::judge::GROUPS;
@@ -19,7 +19,7 @@ ghost use Rattle.grids.specs.Rows.{countText, rowsText, rowsIn, programR
 // A count has ten digits and a byte after them; so many bytes all rows have, their line feeds among them.
 const DIGITS: usize = 10;
 
-pub const ROWS: usize = 385;
+pub const ROWS: usize = 528;
 
 // The rows' bytes, or a shorter line's; what lies past it is 0.
 pub struct Rows {
@@ -78,7 +78,7 @@ fn rows_with(file: usize) -> Rows
     Rows { len: 6, bytes }
 }
 
-// What the program prints of seven files, in any state; an absent one is empty.
+// What the program prints of eight files, in any state; an absent one is empty.
 pub fn program_rows<'a>(files: [&'a [u8]; FILES]) -> Rows
     ensures { λ r. ⌜ r ≡ rowsIn (programRows (filesOf (map now (files .entry)))) ⌝ }
 {

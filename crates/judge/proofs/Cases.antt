@@ -26,6 +26,7 @@ use Rattle.keys.specs.machinery.Findings.{keysIn, keysFinding}
 use Rattle.keys.specs.machinery.Groups.{cellBreak, groupFinding, overFiles}
 use Rattle.topology.specs.Rules.{placed, nodeIn, highestIn, meets, gap, breaks50, unpaired, breaks51, startElsewhere, breaks52, endElsewhere, breaks53, samePlace, placedBefore, breaks54, pointElsewhere, breaks55, endsTramo, namers, nodeIdle, breaks56, objectIdle, breaks57, isTip, vertexWith, isEnd, isMiddle, agrees, disagrees, breaks58, breaks59, fifties, fiftyReasons}
 use Rattle.fifties.specs.machinery.Findings.{topologyIn, topologyFinding}
+use Rattle.objects.specs.Rules.{namedBy, compositeIdle, breaks70, seventies}
 use Rattle.judge.specs.Broken.{saidTests, testsOf, reasonOf, breaksIn, breaksOf, breaks, countsOf}
 use Rattle.judge.specs.Verdict.{judged, verdictOf}
 use Rattle.judge.specs.Cases.{ascii, Case, Outcome, outcome, table}
@@ -41,6 +42,7 @@ unfolding
     nameAt keyOf targetOf repeats breaks30 dangles breaks40 typedIn mistyped breaks41 keyTests keyReasons cellBreak groupFinding overFiles keysIn keysFinding
     placed nodeIn highestIn meets gap breaks50 unpaired breaks51 startElsewhere breaks52 endElsewhere breaks53 samePlace placedBefore breaks54
     pointElsewhere breaks55 endsTramo howMany namers nodeIdle breaks56 objectIdle breaks57 isTip vertexWith isEnd isMiddle agrees disagrees breaks58 breaks59 fifties fiftyReasons topologyIn topologyFinding
+    namedBy compositeIdle breaks70 seventies
     saidTests testsOf reasonOf breaksIn breaksOf breaks judged countsOf verdictOf
 cases = refl
 

@@ -35,8 +35,9 @@ use Rattle.keys.specs.machinery.Groups.{brokenBy}
 use Rattle.keys.specs.Rules.{keyTests}
 use Rattle.keys.specs.machinery.Findings.{keysBroken}
 use Rattle.fifties.specs.machinery.Findings.{topologyBroken}
+use Rattle.objects.specs.machinery.Findings.{objectsBroken}
 use Rattle.judge.specs.declared.judge.Verdict.{Verdict}
-use Rattle.judge.specs.Broken.{groups, isThere, saidTests, testsOf, reasonOf, holds, breaksIn, atWhich, breaksOf, breaks, placeAt, First, Finds, Judges, countsOf}
+use Rattle.judge.specs.Broken.{lastTen, isThere, saidTests, testsOf, reasonOf, holds, breaksIn, atWhich, breaksOf, breaks, placeAt, First, Finds, Judges, countsOf}
 use Rattle.judge.specs.Verdict.{judged, verdictOf}
 use Rattle.judge.specs.machinery.Searched.{searched, brokenIn}
 use Rattle.judge.proofs.SaidLaws.{under-pick, and-none}
@@ -45,14 +46,16 @@ use Rattle.judge.proofs.Plain.{LeastBroken, FoundFirst, found-first}
 -- A TEST holds exactly where its crate says that it is broken
 module _ (files : Files) (n : ℕ) (k : Kind) (i f : ℕ) where
   holds-in : (t : ℕ) → n / 10 ≡ t → getD (testsOf files t k i f) (n % 10) false ≡ brokenIn files n k i f
-  unfolding testsOf saidTests brokenIn broken testsAt keysBroken topologyBroken brokenBy keyTests
+  unfolding testsOf saidTests brokenIn broken testsAt keysBroken topologyBroken objectsBroken brokenBy keyTests
   holds-in zero e = rw e
   holds-in (suc zero) e = rw e
   holds-in (suc (suc zero)) e = rw e
   holds-in (suc (suc (suc zero))) e = rw (e, under-pick)
   holds-in (suc (suc (suc (suc zero)))) e = rw (e, under-pick)
   holds-in (suc (suc (suc (suc (suc zero))))) e = rw (e, under-pick)
-  holds-in (suc (suc (suc (suc (suc (suc t)))))) e = rw (e, under-pick) (and-none (isThere (deliveryOf files k .count) k i f))
+  holds-in (suc (suc (suc (suc (suc (suc zero)))))) e = rw (e, under-pick) (and-none (isThere (deliveryOf files k .count) k i f))
+  holds-in (suc (suc (suc (suc (suc (suc (suc zero))))))) e = rw (e, under-pick)
+  holds-in (suc (suc (suc (suc (suc (suc (suc (suc t)))))))) e = rw (e, under-pick) (and-none (isThere (deliveryOf files k .count) k i f))
 
   pub holds-is : holds files n k i f ≡ brokenIn files n k i f
   unfolding holds
@@ -87,7 +90,11 @@ module _ (files : Files) (k : Kind) (i f u : ℕ) where
   shape-within (suc zero) e = let h = eqb-true i (countOf (files k) k + 1) (and-true (eqb i (countOf (files k) k + 1)) _ e .0) in omega arith
   shape-within (suc (suc v)) e = absurd (true-false (sym e))
 
-  within : (t : ℕ) → getD (testsOf files t k i f) u false ≡ true → (t < groups + 1) × (i < countOf (files k) k + 2) × (f < fieldsOf k + 1)
+  none-within : {A : Type 0} → getD (pick (isThere (deliveryOf files k .count) k i f) [] []) u false ≡ true → A
+  none-within e =
+      absurd (true-false (sym e ∙ under-pick (isThere (deliveryOf files k .count) k i f) [] u ∙ and-none (isThere (deliveryOf files k .count) k i f)))
+
+  within : (t : ℕ) → getD (testsOf files t k i f) u false ≡ true → (t < lastTen + 1) × (i < countOf (files k) k + 2) × (f < fieldsOf k + 1)
   unfolding testsOf saidTests
   within zero e = absurd (true-false (sym e))
   within (suc zero) e =
@@ -98,8 +105,9 @@ module _ (files : Files) (k : Kind) (i f u : ℕ) where
   within (suc (suc (suc zero))) e = let h = there-within (deliveryOf files k .count) (min-under _ _) _ e in (omega arith, h .0, h .1)
   within (suc (suc (suc (suc zero)))) e = let h = there-within (deliveryOf files k .count) (min-under _ _) _ e in (omega arith, h .0, h .1)
   within (suc (suc (suc (suc (suc zero))))) e = let h = there-within (deliveryOf files k .count) (min-under _ _) _ e in (omega arith, h .0, h .1)
-  within (suc (suc (suc (suc (suc (suc t)))))) e =
-      absurd (true-false (sym e ∙ under-pick (isThere (deliveryOf files k .count) k i f) [] u ∙ and-none (isThere (deliveryOf files k .count) k i f)))
+  within (suc (suc (suc (suc (suc (suc zero)))))) e = none-within e
+  within (suc (suc (suc (suc (suc (suc (suc zero))))))) e = let h = there-within (deliveryOf files k .count) (min-under _ _) _ e in (omega arith, h .0, h .1)
+  within (suc (suc (suc (suc (suc (suc (suc (suc t)))))))) e = none-within e
 
 -- THE BREAKS of a delivery: what stands at a place is a break whose test holds,
 pub record Stands (files : Files) (p : List ℕ) (b : Break) : Type 0 where

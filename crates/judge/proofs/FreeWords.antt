@@ -37,7 +37,8 @@ use Rattle.record.proofs.FindingLaws.{inFile, fields-is, shape-is}
 use Rattle.keys.specs.machinery.Groups.{breakIn, overFiles}
 use Rattle.keys.proofs.Agree.{Agrees, isRead, keys-agree}
 use Rattle.fifties.proofs.Agree.{topology-agree}
-use Rattle.judge.specs.Broken.{groups, countsOf}
+use Rattle.objects.proofs.Agree.{objects-agree}
+use Rattle.judge.specs.Broken.{lastTen, countsOf}
 use Rattle.judge.specs.Verdict.{judged, verdictOf}
 use Rattle.judge.specs.machinery.Searched.{groupAt, searched}
 use Rattle.judge.proofs.Exact.{searched-is}
@@ -279,11 +280,12 @@ module _ (files others : Files) (w : SameButWords files others) where
   group-same : (t : ℕ) → groupAt files t ≡ groupAt others t
   unfolding groupAt
   group-same t =
-      rw (ap overFiles (fun-ext shape-same), ap overFiles (fun-ext fields-same), keys-agree agree 3, keys-agree agree 4, topology-agree agree)
+      rw
+      (ap overFiles (fun-ext shape-same), ap overFiles (fun-ext fields-same), keys-agree agree 3, keys-agree agree 4, topology-agree agree, objects-agree agree)
 
   judged-same : judged files ≡ judged others
   unfolding searched
-  judged-same = sym (searched-is files) ∙ ap findingOf (first-same _ _ (groups + 1) (λ t l. ap breakIn (group-same t))) ∙ searched-is others
+  judged-same = sym (searched-is files) ∙ ap findingOf (first-same _ _ (lastTen + 1) (λ t l. ap breakIn (group-same t))) ∙ searched-is others
 
   counts-same : countsOf files ≡ countsOf others
   unfolding countsOf

@@ -2,8 +2,8 @@
 -- Assumes nothing.
 use Prim.Native.Nat.{ℕ, _+_}
 use mathlib.Core.Bool.{Bool}
-use mathlib.Core.List.{[], _∷_}
-use mathlib.Core.Path.{_≡_, refl}
+use mathlib.Core.List.{_∷_}
+use mathlib.Core.Path.{_≡_, refl, sym}
 use Rattle.record.specs.Cut.{countOf}
 use Rattle.laws.specs.Row.{pick, row}
 use Rattle.record.specs.declared.kind.Kind.{Kind}
@@ -13,8 +13,9 @@ use Rattle.record.specs.declared.reason.Finding.the-variants.{Fine}
 use Rattle.record.specs.Table.{whichOf, fileCount, onFile}
 use Rattle.record.specs.Files.{Files}
 use Rattle.record.specs.Breaks.{shapeFinding, fieldsFinding}
-use Rattle.record.proofs.TableLaws.{NoneOf, numbers, default-at}
-use Rattle.judge.specs.Broken.{groups, countsOf}
+use Rattle.record.proofs.TableLaws.{NoneOf, numbers}
+use Rattle.fifties.proofs.FiftyLaws.{plain, end, other, else-default}
+use Rattle.judge.specs.Broken.{countsOf}
 use Rattle.judge.specs.machinery.Searched.{groupAt}
 
 -- a file's finding, of its shape or of its fields
@@ -34,6 +35,16 @@ unfolding countNo countsOf row whichOf onFile
 counts-row files = refl
 
 -- OF A TEN: the others have no reasons
-pub group-else : (files : Files) (t : ℕ) → NoneOf (numbers 1 groups) t → Fine ≡ groupAt files t
+pub group-else : (files : Files) (t : ℕ) → NoneOf (7 ∷ numbers 1 5) t → Fine ≡ groupAt files t
 unfolding groupAt
-group-else files t o = default-at Fine 1 (_ ∷ _ ∷ _ ∷ _ ∷ _ ∷ []) t o
+group-else files t o =
+    sym
+    (else-default
+    (plain
+    (other (o .0 .0 .0 .0 .0 .1)
+    (other (o .0 .0 .0 .0 .1)
+    (other (o .0 .0 .0 .1)
+    (other (o .0 .0 .1)
+    (other (o .0 .1)
+    (plain
+    (other (o .1) end)))))))))

@@ -99,10 +99,10 @@ line-end {whole = whole} {buf = buf} {at = at} n h e l =
     ∙ ap (λ (s : List ℕ). s ++ replicate (lineRoom - suc at) 0) (h .written) in
     rw (long, e, bytes)
 
--- COUNTS: i of seven are put
+-- COUNTS: i of them are put
 pub record Counting (counts bytes : List ℕ) (at i : ℕ) : Type 0 where
   pub few : i ≤ fileCount
-  pub seven : length counts ≡ fileCount
+  pub all : length counts ≡ fileCount
   pub place : at ≡ 2 + 6 * i
   pub so-far : Written (79 ∷ 75 ∷ countWords counts) (countWords (drop i counts)) bytes at
 
@@ -124,25 +124,25 @@ module _ {counts bytes : List ℕ} {at i : ℕ} (h : Counting counts bytes at i)
   counting-more l n p =
       record {
         few = omega arith;
-        seven = h .seven;
+        all = h .all;
         place = omega (arith, h .place, p .0);
-        so-far = word-more 5 _ _ (at-left _ (next-count counts i (omega (arith, h .seven)))) n p;
+        so-far = word-more 5 _ _ (at-left _ (next-count counts i (omega (arith, h .all)))) n p;
       }
 
   pub counting-end : fileCount ≤ i → record { len = lineRoom; bytes = set bytes at 10 } ≡ lineIn (79 ∷ 75 ∷ countWords counts)
   counting-end l =
-      let p : at ≡ 44 = omega (arith, h .few, h .place) in
-      line-end lineRoom (at-left _ (no-count counts i (omega (arith, h .seven)))) (omega (arith, p)) (omega (arith, p))
+      let p : at + 1 ≡ lineRoom = omega (arith, h .few, h .place) in
+      line-end lineRoom (at-left _ (no-count counts i (omega (arith, h .all)))) (omega (arith, p)) (omega (arith, p))
 
 -- A BREAK: four words are to come, the first of them the reason's number
 pub break-start : (b : Break) (n : ℕ) → n ≡ numberOf (b .reason)
     → Written (breakLine b)
     (32 ∷ (digits 2 n ++ 32 ∷ (digits 1 (b .file) ++ 32 ∷ (digits 5 (b .«record») ++ 32 ∷ (digits 2 (b .field) ++ 10 ∷ [])))))
-    (78 ∷ 79 ∷ replicate 43 0) 2
+    (78 ∷ 79 ∷ replicate (lineRoom - 2) 0) 2
 break-start b n e = record { room = refl; written = rw e; rest = refl }
 
 -- BIG: one word is to come
-pub big-line-start : (file : ℕ) → Written (bigLine file) (32 ∷ (digits 1 file ++ 10 ∷ [])) (66 ∷ 73 ∷ 71 ∷ replicate 42 0) 3
+pub big-line-start : (file : ℕ) → Written (bigLine file) (32 ∷ (digits 1 file ++ 10 ∷ [])) (66 ∷ 73 ∷ 71 ∷ replicate (lineRoom - 3) 0) 3
 big-line-start file = record { room = refl; written = refl; rest = refl }
 
 -- THE LINE of a verdict, by its finding

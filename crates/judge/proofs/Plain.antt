@@ -34,7 +34,10 @@ use Rattle.keys.proofs.Shown.{ShownBy, keys-shown}
 use Rattle.topology.specs.Rules.{fiftyReasons}
 use Rattle.fifties.specs.machinery.Findings.{topologyIn, topologyFinding, topologyBroken}
 use Rattle.fifties.proofs.Meaning.{topology-means, topology-shown}
-use Rattle.judge.specs.Broken.{groups, reasonOf, placeAt}
+use Rattle.objects.specs.Rules.{seventyReasons}
+use Rattle.objects.specs.machinery.Findings.{objectsIn, objectsFinding, objectsBroken}
+use Rattle.objects.proofs.Meaning.{objects-means, objects-shown}
+use Rattle.judge.specs.Broken.{lastTen, reasonOf, placeAt}
 use Rattle.judge.specs.machinery.Searched.{groupAt, searched, brokenIn}
 
 -- a break at which a test holds, and none before
@@ -116,7 +119,7 @@ module _ (files : Files) where
   d = deliveryOf files
 
   ten : (t : ℕ) → Ten files t
-  unfolding groupAt brokenIn reasonOf keysFinding topologyFinding
+  unfolding groupAt brokenIn reasonOf keysFinding topologyFinding objectsFinding
   ten zero = ten-none 0 refl (λ n k i f e. rw e)
   ten (suc zero) =
       ten-of 1 (λ k. broken (files k) k) (λ k. shapeFinding (files k) k) (λ k i f. tenReasons)
@@ -133,22 +136,26 @@ module _ (files : Files) where
   ten (suc (suc (suc (suc (suc zero))))) =
       ten-of 5 (topologyBroken d) (topologyIn d) (fiftyReasons d)
       refl (λ n k i f e. rw e) (λ n k i f e. rw e) (topology-means d) (λ k b e m. topology-shown d k e)
-  ten (suc (suc (suc (suc (suc (suc t)))))) = ten-none (suc (suc (suc (suc (suc (suc t)))))) refl (λ n k i f e. rw e)
+  ten (suc (suc (suc (suc (suc (suc zero)))))) = ten-none 6 refl (λ n k i f e. rw e)
+  ten (suc (suc (suc (suc (suc (suc (suc zero))))))) =
+      ten-of 7 (objectsBroken d) (objectsIn d) (λ k i f. seventyReasons)
+      refl (λ n k i f e. rw e) (λ n k i f e. rw e) (objects-means d) (λ k b e m. objects-shown d k e)
+  ten (suc (suc (suc (suc (suc (suc (suc (suc t)))))))) = ten-none (suc (suc (suc (suc (suc (suc (suc (suc t)))))))) refl (λ n k i f e. rw e)
 
   -- where a ten has no finding, none of its reasons is broken
   ten-fine : (t : ℕ) → groupAt files t ≡ Fine → (n : ℕ) (k : Kind) (i f : ℕ) → n / 10 ≡ t → brokenIn files n k i f ≡ false
   ten-fine t e n k i f q = fine-means _ t k (over-fine (ten t .found) (sym (ten t .over) ∙ e) k) (ten t .means k) n i f q
 
   -- NOTHING is found
-  group-past : (t : ℕ) → groups < t → groupAt files t ≡ Fine
+  group-past : (t : ℕ) → lastTen < t → groupAt files t ≡ Fine
   unfolding groupAt
-  group-past t l = let e : t ≡ suc (suc (suc (suc (suc (suc (t - 6)))))) = omega arith in ap (groupAt files) e
+  group-past t l = let e : t ≡ suc (suc (suc (suc (suc (suc (suc (suc (t - 8)))))))) = omega arith in ap (groupAt files) e
 
-  all-fine : firstOf (λ t. breakIn (groupAt files t)) (groups + 1) ≡ none → (t : ℕ) → groupAt files t ≡ Fine
-  all-fine e t = go (decLt t (groups + 1))
+  all-fine : firstOf (λ t. breakIn (groupAt files t)) (lastTen + 1) ≡ none → (t : ℕ) → groupAt files t ≡ Fine
+  all-fine e t = go (decLt t (lastTen + 1))
     where
-      go : Dec (t < groups + 1) → groupAt files t ≡ Fine
-      go (yes l) = break-none _ (none-at _ (groups + 1) e l)
+      go : Dec (t < lastTen + 1) → groupAt files t ≡ Fine
+      go (yes l) = break-none _ (none-at _ (lastTen + 1) e l)
       go (no l) = group-past t (omega arith)
 
   -- A BREAK is found in file k: the tens below have none, and in its ten neither have the files below
@@ -178,11 +185,11 @@ module _ (files : Files) where
 
   pub found-first : FoundFirst files (searched files)
   unfolding searched FoundFirst
-  found-first = go (firstOf (λ t. breakIn (groupAt files t)) (groups + 1)) refl
+  found-first = go (firstOf (λ t. breakIn (groupAt files t)) (lastTen + 1)) refl
     where
-      go : (o : Option Break) → firstOf (λ t. breakIn (groupAt files t)) (groups + 1) ≡ o → FoundFirst files (findingOf o)
+      go : (o : Option Break) → firstOf (λ t. breakIn (groupAt files t)) (lastTen + 1) ≡ o → FoundFirst files (findingOf o)
       go none e = λ n k i f. ten-fine (n / 10) (all-fine e (n / 10)) n k i f refl
       go (some b) e =
-          let r = some-at _ (groups + 1) e in
+          let r = some-at _ (lastTen + 1) e in
           let w = over-broken (ten (r .0) .found) (sym (ten (r .0) .over) ∙ break-some _ (r .2)) in
           first-break (r .0) (w .0) b (λ t l. break-none _ (none-at _ (r .0) (r .3) l)) (w .1) (w .2)

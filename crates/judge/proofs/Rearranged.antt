@@ -1,11 +1,11 @@
--- Two deliveries that say the same, the one with its files' records in another order: where no rule of keys, references and
--- topology is broken in the one, none is in the other. A rule's test at a record is the test at its new place; those that speak of
+-- Two deliveries that say the same, the one with its files' records in another order: where no rule of keys, references,
+-- topology and objects is broken in the one, none is in the other. A rule's test at a record is the test at its new place; those that speak of
 -- earlier records (30 and 54) hold at as many records.
 -- Assumes nothing.
 use Prim.Native.Nat.{ℕ, zero, suc, _+_, _-_, _<_, _≤_}
 use mathlib.Core.Bool.{Bool, true, false, not, _&&_, _||_}
 use mathlib.Core.List.{[]}
-use mathlib.Core.Path.{_≡_, refl, ap, ap₂, _∙_}
+use mathlib.Core.Path.{_≡_, refl, sym, ap, ap₂, _∙_}
 use native.Mathlib.Decide.{ℕ-discrete}
 use native.Mathlib.Omega.{arith}
 use lib.Dec.{leb, eqb, ltb}
@@ -18,7 +18,7 @@ use Rattle.laws.proofs.RowLaws.{and-true, then-false, and-last, picked, end, mo
 use Rattle.laws.proofs.Turns.{Turn, any-turn}
 use Rattle.laws.proofs.CountLaws.{Alike, alike-by, alike-both, again-turn, count-none, count-no, count-under, count-turn}
 use Rattle.record.specs.declared.kind.Kind.{Kind}
-use Rattle.record.specs.declared.kind.Kind.the-variants.{Catalogo, ObPun, ObLin, Tramo, Vertice, Nodo}
+use Rattle.record.specs.declared.kind.Kind.the-variants.{Catalogo, ObPun, ObTex, ObLin, Tramo, Vertice, Nodo, ObComp}
 use Rattle.record.specs.Table.{Col, whole, cols, colAt, fieldsOf, fileOf, keysOf, targetOf}
 use Rattle.record.specs.Says.{Said, Table, numberIn, placeIn}
 use Rattle.record.proofs.TableLaws.{each-getD, every, file-same}
@@ -27,9 +27,12 @@ use Rattle.record.specs.declared.kind.Target.the-variants.{Free, Nowhere, To}
 use Rattle.record.specs.Files.{Delivery}
 use Rattle.record.specs.Names.{nameAt, vertexKey, keyOf}
 use Rattle.keys.specs.Rules.{repeats, breaks30, dangles, danglesTo, breaks40, typedIn, mistyped, breaks41, keyTests}
+use Rattle.keys.specs.machinery.Groups.{Tests, brokenBy}
 use Rattle.keys.specs.machinery.Findings.{keysBroken}
 use Rattle.topology.specs.Rules.{xAt, yAt, zAt, isAt, placed, nodeIn, hasVertex, highestIn, highest, meets, elsewhere, tramoLine, gap, breaks50, unpaired, breaks51, startElsewhere, breaks52, endElsewhere, breaks53, samePlace, placedBefore, breaks54, pointElsewhere, breaks55, endsTramo, namers, nodeIdle, breaks56, objectIdle, breaks57, isTip, vertexWith, isEnd, isMiddle, disagrees, breaks58, breaks59, fifties}
-use Rattle.fifties.specs.machinery.Findings.{topologyTests, topologyBroken}
+use Rattle.fifties.specs.machinery.Findings.{topologyBroken}
+use Rattle.objects.specs.Rules.{namedBy, compositeIdle, breaks70, seventies}
+use Rattle.objects.specs.machinery.Findings.{objectsBroken}
 use Rattle.judge.proofs.NoneBroken.{NoTest, none-tests, tests-none}
 use Rattle.judge.proofs.Turns.{highest-turn}
 
@@ -294,17 +297,34 @@ module _ (d e : Delivery) (r : Rearranged d e) where
       let b : p (to k i) ≡ false = then-false (isAt file field k f) (p (to k i)) h t in
       same i (rw z at l) ∙ (rw z at b))
 
-  module _ (h : (k : Kind) → NoTest (topologyTests d k) k (d k .count)) where
+  -- a group whose tests are all of one ten
+  abbrev NoneIn : Delivery → (Kind → Tests) → Type 0
+  NoneIn x tests = (k : Kind) (i f u : ℕ) → i < x k .count → f ≤ fieldsOf k → u < 10 → getD (tests k i f) u false ≡ false
+
+  ten-rearranged :
+      (t : ℕ) (there here : Kind → Tests) → (NoneIn d there → NoneIn d here)
+      → ((k : Kind) (n i f : ℕ) → brokenBy (λ s i f. pick (eqb s t) (there k i f) []) k (d k .count) n i f ≡ false)
+      → (k : Kind) (n i f : ℕ) → brokenBy (λ s i f. pick (eqb s t) (here k i f) []) k (e k .count) n i f ≡ false
+  ten-rearranged t there here same h k =
+      tests-none _ k (e k .count)
+      (λ s i f u l b z. picked (λ ts. getD ts u false ≡ false) (eqb s t) (here k i f) [] (λ _. same none k i f u (rw (r .count k) at l) b z) (λ _. refl))
+    where
+      none : NoneIn d there
+      none j i f u l b z =
+          ap (λ (b : Bool). getD (pick b (there j i f) []) u false) (sym (eq-eqb t t refl))
+          ∙ none-tests (λ s i f. pick (eqb s t) (there j i f) []) j (d j .count) (h j) t i f u l b z
+
+  module _ (h : NoneIn d (fifties d)) where
     separate : (j : ℕ) → j < d Nodo .count → placedBefore (d Nodo) j ≡ false
     unfolding fifties breaks54
-    separate j l = h Nodo 5 j 0 4 l (omega arith) (omega arith)
+    separate j l = h Nodo j 0 4 l (omega arith) (omega arith)
 
     none-54 : (i : ℕ) → i < d Nodo .count → placedBefore (e Nodo) i ≡ false
     none-54 i l = count-no (placedBefore (e Nodo)) (d Nodo .count) (placed-before-there ∙ count-none _ (d Nodo .count) separate) l
 
-    fifties-there : (k : Kind) (i f u : ℕ) → i < d k .count → f ≤ fieldsOf k → getD (fifties e k i f) u false ≡ false
+    fifties-there : NoneIn d (fifties e)
     unfolding fifties breaks50 breaks51 breaks52 breaks53 breaks54 breaks55 breaks56 breaks57 breaks58 breaks59
-    fifties-there k i f u l b =
+    fifties-there k i f u l b _ =
         falses
         (more (told Vertice 2 (gap (keyOf Vertice (d Vertice)) (d Vertice .count)) _ gap-there k i f l (no 0 (omega arith)))
         (more (told Vertice 2 (unpaired (keyOf Vertice (d Vertice)) (d Vertice .count)) _ alone-there k i f l (no 1 (omega arith)))
@@ -319,13 +339,30 @@ module _ (d e : Delivery) (r : Rearranged d e) where
         u
       where
         no : (u : ℕ) → u < 10 → getD (fifties d k (to k i) f) u false ≡ false
-        no u s = h k 5 (to k i) f u (r .turn k .to-within i l) b s
-
-    topology-tests : (k : Kind) → NoTest (topologyTests e k) k (e k .count)
-    topology-tests k t i f u l b s =
-        picked (λ ts. getD ts u false ≡ false) (eqb t 5) (fifties e k i f) [] (λ _. fifties-there k i f u (rw (r .count k) at l) b) (λ _. refl)
+        no u s = h k (to k i) f u (r .turn k .to-within i l) b s
 
   pub topology-rearranged : ((k : Kind) (n i f : ℕ) → topologyBroken d k n i f ≡ false) → (k : Kind) (n i f : ℕ) → topologyBroken e k n i f ≡ false
   unfolding topologyBroken
-  topology-rearranged h k =
-      tests-none (topologyTests e k) k (e k .count) (topology-tests (λ j. none-tests (topologyTests d j) j (d j .count) (h j)) k)
+  topology-rearranged = ten-rearranged 5 (fifties d) (fifties e) fifties-there
+
+  -- THE RULES of objects
+  named-there : (k : Kind) → 2 ≤ fieldsOf k → (name : ℕ) → namedBy e k name ≡ namedBy d k name
+  unfolding namedBy
+  named-there k b = names-there k _ _ (λ j m. name-there k j 2 m b)
+
+  composite-there : (i : ℕ) → i < d ObComp .count → compositeIdle e i ≡ compositeIdle d (to ObComp i)
+  unfolding compositeIdle
+  composite-there i l =
+      rw (name-there ObComp i 1 l (omega arith))
+      (ap not (ap₂ _||_ (ap₂ _||_ (named-there ObPun (omega arith) _) (named-there ObTex (omega arith) _)) (named-there ObLin (omega arith) _)))
+
+  seventies-there : NoneIn d (seventies d) → NoneIn d (seventies e)
+  unfolding seventies breaks70
+  seventies-there h k i f u l b _ =
+      falses
+      (more (told ObComp 0 (compositeIdle d) _ composite-there k i f l (h k (to k i) f 0 (r .turn k .to-within i l) b (omega arith))) end)
+      u
+
+  pub objects-rearranged : ((k : Kind) (n i f : ℕ) → objectsBroken d k n i f ≡ false) → (k : Kind) (n i f : ℕ) → objectsBroken e k n i f ≡ false
+  unfolding objectsBroken
+  objects-rearranged = ten-rearranged 7 (seventies d) (seventies e) seventies-there

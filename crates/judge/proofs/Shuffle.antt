@@ -9,8 +9,8 @@ use Rattle.codec.specs.declared.values.Values.{Values}
 use Rattle.codec.specs.Values.{valuesSay}
 use Rattle.codec.specs.Refusals.{sixties}
 use Rattle.judge.specs.Obeys.{Records, noValues, valuesAt, tablesOf, Obeys, Shuffled}
-use Rattle.judge.proofs.SaidLaws.{said-keys, said-topology, both-said}
-use Rattle.judge.proofs.Rearranged.{Rearranged, keys-rearranged, topology-rearranged}
+use Rattle.judge.proofs.SaidLaws.{said-keys, said-topology, said-objects, all-said}
+use Rattle.judge.proofs.Rearranged.{Rearranged, keys-rearranged, topology-rearranged, objects-rearranged}
 
 module _ (vs ws : Records) (sh : (k : Kind) → Shuffled (vs k) (ws k)) where
   moved-at : (k : Kind) (i : ℕ) → i < length (vs k) → valuesAt ws k i ≡ valuesAt vs k (sh k .to i)
@@ -40,7 +40,8 @@ module _ (vs ws : Records) (sh : (k : Kind) → Shuffled (vs k) (ws k)) where
             let b : i < length (vs k) = rw (sh k .long) at l in
             ap (λ (x : Values). getD (sixties k (valuesSay k x) f) u false) (moved-at k i b) ∙ o .fields k (sh k .to i) f u (sh k .to-within i b) m;
         rules = λ n k i f.
-            both-said (tablesOf ws) n k i f
+            all-said (tablesOf ws) n k i f
             (keys-rearranged (tablesOf vs) (tablesOf ws) tables-shuffled (λ k n i f. said-keys (tablesOf vs) n k i f (o .rules n k i f)) k n i f)
-            (topology-rearranged (tablesOf vs) (tablesOf ws) tables-shuffled (λ k n i f. said-topology (tablesOf vs) n k i f (o .rules n k i f)) k n i f);
+            (topology-rearranged (tablesOf vs) (tablesOf ws) tables-shuffled (λ k n i f. said-topology (tablesOf vs) n k i f (o .rules n k i f)) k n i f)
+            (objects-rearranged (tablesOf vs) (tablesOf ws) tables-shuffled (λ k n i f. said-objects (tablesOf vs) n k i f (o .rules n k i f)) k n i f);
       }

@@ -21,14 +21,16 @@ use Rattle.keys.specs.Rules.{keyTests, keyReasons}
 use Rattle.keys.specs.machinery.Findings.{keysBroken, keysIn, keysFinding}
 use Rattle.topology.specs.Rules.{fiftyReasons}
 use Rattle.fifties.specs.machinery.Findings.{topologyTests, topologyBroken, topologyIn, topologyFinding}
-use Rattle.judge.specs.Broken.{groups, countsOf}
+use Rattle.objects.specs.Rules.{seventyReasons}
+use Rattle.objects.specs.machinery.Findings.{objectsTests, objectsBroken, objectsIn, objectsFinding}
+use Rattle.judge.specs.Broken.{lastTen, countsOf}
 use Rattle.judge.specs.Verdict.{judged, verdictOf}
 use Rattle.judge.specs.machinery.Searched.{groupAt, searched}
 use Rattle.judge.specs.Obeys.{Records, valuesAt, tablesOf, Obeys, madeOf, Shuffled, lengthsOf, accepted}
 use Rattle.judge.proofs.NoneBroken.{over-fine, none-broken-fine}
-use Rattle.judge.proofs.SaidLaws.{said-keys, said-topology}
+use Rattle.judge.proofs.SaidLaws.{said-keys, said-topology, said-objects}
 use Rattle.judge.proofs.Made.{count-written, shape-written, fields-written, said-written}
-use Rattle.judge.proofs.Rearranged.{Rearranged, keys-rearranged, topology-rearranged}
+use Rattle.judge.proofs.Rearranged.{Rearranged, keys-rearranged, topology-rearranged, objects-rearranged}
 use Rattle.judge.proofs.Shuffle.{shuffled-obeys}
 use Rattle.judge.proofs.Exact.{searched-is}
 
@@ -40,6 +42,10 @@ keys-fine d h t = over-fine _ (λ k. none-broken-fine (λ t. keyTests t d k) k (
 pub topology-fine : (d : Delivery) → ((k : Kind) (n i f : ℕ) → topologyBroken d k n i f ≡ false) → topologyFinding d ≡ Fine
 unfolding topologyFinding topologyIn topologyBroken
 topology-fine d h = over-fine _ (λ k. none-broken-fine (topologyTests d k) k (d k .count) (h k) (fiftyReasons d k) 5)
+
+pub objects-fine : (d : Delivery) → ((k : Kind) (n i f : ℕ) → objectsBroken d k n i f ≡ false) → objectsFinding d ≡ Fine
+unfolding objectsFinding objectsIn objectsBroken
+objects-fine d h = over-fine _ (λ k. none-broken-fine (objectsTests d k) k (d k .count) (h k) (λ i f. seventyReasons) 7)
 
 module _ (vs : Records) (o : Obeys vs) where
   -- no record is refused
@@ -62,6 +68,9 @@ module _ (vs : Records) (o : Obeys vs) where
   topology-made : (k : Kind) (n i f : ℕ) → topologyBroken (deliveryOf (madeOf vs)) k n i f ≡ false
   topology-made = topology-rearranged (tablesOf vs) (deliveryOf (madeOf vs)) tables-made (λ k n i f. said-topology _ n k i f (o .rules n k i f))
 
+  objects-made : (k : Kind) (n i f : ℕ) → objectsBroken (deliveryOf (madeOf vs)) k n i f ≡ false
+  objects-made = objects-rearranged (tablesOf vs) (deliveryOf (madeOf vs)) tables-made (λ k n i f. said-objects _ n k i f (o .rules n k i f))
+
   group-fine : (t : ℕ) → groupAt (madeOf vs) t ≡ Fine
   unfolding groupAt
   group-fine zero = refl
@@ -70,11 +79,13 @@ module _ (vs : Records) (o : Obeys vs) where
   group-fine (suc (suc (suc zero))) = keys-fine _ keys-made 3
   group-fine (suc (suc (suc (suc zero)))) = keys-fine _ keys-made 4
   group-fine (suc (suc (suc (suc (suc zero))))) = topology-fine _ topology-made
-  group-fine (suc (suc (suc (suc (suc (suc t)))))) = refl
+  group-fine (suc (suc (suc (suc (suc (suc zero)))))) = refl
+  group-fine (suc (suc (suc (suc (suc (suc (suc zero))))))) = objects-fine _ objects-made
+  group-fine (suc (suc (suc (suc (suc (suc (suc (suc t)))))))) = refl
 
   made-fine : judged (madeOf vs) ≡ Fine
   unfolding searched
-  made-fine = sym (searched-is (madeOf vs)) ∙ ap findingOf (first-none _ (groups + 1) (λ t l. ap breakIn (group-fine t)))
+  made-fine = sym (searched-is (madeOf vs)) ∙ ap findingOf (first-none _ (lastTen + 1) (λ t l. ap breakIn (group-fine t)))
 
   made-counts : countsOf (madeOf vs) ≡ lengthsOf vs
   unfolding countsOf

@@ -6,7 +6,7 @@ use mathlib.Core.List.{List, [], _∷_, map}
 use mathlib.Core.Option.{none}
 use mathlib.Core.Path.{_≡_}
 use lib.Dec.{leb, eqb}
-use lib.ListN.{getD}
+use lib.ListN.{length, getD}
 use Rattle.laws.specs.Find.{hit}
 use Rattle.laws.specs.Nest.{Nest, leaf, node, before}
 use Rattle.laws.specs.Row.{pick}
@@ -25,11 +25,18 @@ use Rattle.record.specs.Rules.{twenties}
 use Rattle.record.specs.Breaks.{numberOf, breakOf, tenReasons, twentyReasons, shapeTests}
 use Rattle.keys.specs.Rules.{breaks30, breaks40, breaks41, keyReasons}
 use Rattle.topology.specs.Rules.{fifties, fiftyReasons}
+use Rattle.objects.specs.Rules.{seventies, seventyReasons}
 use Rattle.judge.specs.declared.judge.Verdict.{Verdict}
 
--- the groups of reasons, by their tens: 10 to 50
+-- the tens of the groups of reasons: 10 to 50, and 70
+abbrev pub groupTens : List ℕ
+groupTens = 1 ∷ 2 ∷ 3 ∷ 4 ∷ 5 ∷ 7 ∷ []
+
 abbrev pub groups : ℕ
-groups = 5
+groups = length groupTens
+
+abbrev pub lastTen : ℕ
+lastTen = 7
 
 -- record i, counted from 1, and field f are there, in a file of so many records
 abbrev pub isThere : ℕ → Kind → ℕ → ℕ → Bool
@@ -45,6 +52,8 @@ saidTests d t k i f =
     ∷ (breaks30 d k (i - 1) f ∷ [])
     ∷ (breaks40 d k (i - 1) f ∷ breaks41 d k (i - 1) f ∷ [])
     ∷ fifties d k (i - 1) f
+    ∷ []
+    ∷ seventies d k (i - 1) f
     ∷ [])
     t [])
     []
@@ -73,11 +82,13 @@ reasonOf files n k i f =
     ∷ keyReasons 3 (deliveryOf files) k (i - 1) f
     ∷ keyReasons 4 (deliveryOf files) k (i - 1) f
     ∷ fiftyReasons (deliveryOf files) k (i - 1) f
+    ∷ []
+    ∷ seventyReasons
     ∷ [])
     (n / 10) [])
     (n % 10) LongFile10
 
--- THE TEST of the rule with document 01's number n
+-- THE TEST of the rule with document 01's or 02's number n
 unfoldable pub holds : Files → ℕ → Kind → ℕ → ℕ → Bool
 holds files n k i f = getD (testsOf files (n / 10) k i f) (n % 10) false
 
@@ -104,7 +115,7 @@ breaksOf files t = node (fileCount + 1) (λ n. atWhich (breaksIn files t) (which
 
 -- and of all tens
 unfoldable pub breaks : Files → Nest Break
-breaks files = node (groups + 1) (λ t. breaksOf files t)
+breaks files = node (lastTen + 1) (λ t. breaksOf files t)
 
 -- THE ORDER of breaks: tens of the reason, file, record, field, reason
 abbrev pub placeAt : ℕ → Kind → ℕ → ℕ → List ℕ

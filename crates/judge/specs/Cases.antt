@@ -9,7 +9,7 @@ use lib.ListN.{getD, replicate}
 use Rattle.laws.specs.Row.{row}
 use Rattle.field.specs.Texts.{padded}
 use Rattle.record.specs.declared.kind.Kind.{Kind}
-use Rattle.record.specs.declared.kind.Kind.the-variants.{Catalogo, ObPun, ObTex, ObLin, Tramo, Vertice, Nodo}
+use Rattle.record.specs.declared.kind.Kind.the-variants.{Catalogo, ObPun, ObTex, ObLin, Tramo, Vertice, Nodo, ObComp}
 use Rattle.record.specs.declared.reason.Finding.{Finding}
 use Rattle.record.specs.declared.reason.Finding.the-variants.{Fine, Broken}
 use Rattle.record.specs.Table.{fieldsOf, lengthOf, widthAt}
@@ -67,7 +67,7 @@ tramos = tramoRecord "0100001" "0000000002"
 abbrev pub vertices : List ℕ
 vertices = vertexRecord "00001" "000000100" ++ vertexRecord "00002" "000000140"
 
--- S with other files 4 to 7
+-- S with other files 4 to 7, and no composites
 abbrev pub delivery : List ℕ → List ℕ → List ℕ → List ℕ → Files
 delivery lines tramos vertices nodes = filesOf (codes ∷ [] ∷ [] ∷ lines ∷ tramos ∷ vertices ∷ nodes ∷ [])
 
@@ -84,7 +84,7 @@ pub data Case : Type 0 where
   writing : Values → Case
   bytes : List ℕ → Case
 
--- its answer: the seven counts; reason, file, record and field; done; reason and field; the bytes, or lengths
+-- its answer: the eight counts; reason, file, record and field; done; reason and field; the bytes, or lengths
 pub data Outcome : Type 0 where
   OK : List ℕ → Outcome
   NO : ℕ → ℕ → ℕ → ℕ → Outcome
@@ -109,13 +109,13 @@ outcome (bytes s) = these s
 abbrev pub table : List (Case × Outcome)
 table =
     -- the record lengths, by file
-    (bytes (lengthOf Catalogo ∷ lengthOf ObPun ∷ lengthOf ObTex ∷ lengthOf ObLin ∷ lengthOf Tramo ∷ lengthOf Vertice ∷ lengthOf Nodo ∷ []), these (133 ∷ 149 ∷ 144 ∷ 128 ∷ 77 ∷ 54 ∷ 50 ∷ []))
+    (bytes (lengthOf Catalogo ∷ lengthOf ObPun ∷ lengthOf ObTex ∷ lengthOf ObLin ∷ lengthOf Tramo ∷ lengthOf Vertice ∷ lengthOf Nodo ∷ lengthOf ObComp ∷ []), these (133 ∷ 149 ∷ 144 ∷ 128 ∷ 77 ∷ 54 ∷ 50 ∷ 117 ∷ []))
     -- node 1's record
     ∷ (bytes node1, these (ascii "0000000001| |+|000000100|+|0000000200| |        \r\n"))
-    -- 1: seven empty files
-    ∷ (judging (filesOf []), OK (0 ∷ 0 ∷ 0 ∷ 0 ∷ 0 ∷ 0 ∷ 0 ∷ []))
+    -- 1: empty files
+    ∷ (judging (filesOf []), OK (0 ∷ 0 ∷ 0 ∷ 0 ∷ 0 ∷ 0 ∷ 0 ∷ 0 ∷ []))
     -- 2: S
-    ∷ (judging S, OK (2 ∷ 0 ∷ 0 ∷ 1 ∷ 1 ∷ 2 ∷ 2 ∷ []))
+    ∷ (judging S, OK (2 ∷ 0 ∷ 0 ∷ 1 ∷ 1 ∷ 2 ∷ 2 ∷ 0 ∷ []))
     -- 3: node 2 at X 141
     ∷ (judging (delivery objects tramos vertices (node1 ++ nodeRecord "0000000002" "+" "000000141" "0000000200")), NO 53 5 1 7)
     -- 4: orders 1 and 3
@@ -137,7 +137,7 @@ table =
     -- 12: third node at (0, 0)
     ∷ (judging (delivery objects tramos vertices (node1 ++ node2 ++ nodeRecord "0000000003" "+" "000000000" "0000000000")), NO 56 7 3 0)
     -- 13: a bar in the object's name
-    ∷ (judging (delivery (objectRecord "CALLE|MAYOR") tramos vertices (node1 ++ node2)), OK (2 ∷ 0 ∷ 0 ∷ 1 ∷ 1 ∷ 2 ∷ 2 ∷ []))
+    ∷ (judging (delivery (objectRecord "CALLE|MAYOR") tramos vertices (node1 ++ node2)), OK (2 ∷ 0 ∷ 0 ∷ 1 ∷ 1 ∷ 2 ∷ 2 ∷ 0 ∷ []))
     -- 14: writing a node
     ∷ (writing (nodeAt 999999999), done)
     ∷ (writing (nodeAt 1000000000), refused 62 4)

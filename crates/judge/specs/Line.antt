@@ -1,6 +1,6 @@
 -- The verdict program's line (document 01, "The verdict program"): `OK` and the counts, `NO` and the break, or `BIG` and the file.
 -- Assumes nothing.
-use Prim.Native.Nat.{ℕ, _+_, _-_}
+use Prim.Native.Nat.{ℕ, _+_, _-_, _*_}
 use mathlib.Core.Bool.{Bool, false}
 use mathlib.Core.List.{List, [], _∷_, _++_}
 use lib.Dec.{ltb, eqb}
@@ -35,7 +35,7 @@ abbrev pub lineFor : Finding → List ℕ → List ℕ
 lineFor Fine counts = 79 ∷ 75 ∷ countWords counts
 lineFor (Broken b) counts = breakLine b
 
--- `OK` and seven counts; or the break
+-- `OK` and the counts; or the break
 unfoldable pub lineOf : Verdict → List ℕ
 lineOf v = lineFor (v .finding) (v .counts)
 
@@ -64,9 +64,10 @@ orBig text files = pick (eqb (bigOf files) 0) (text files) (bigLine (bigOf files
 abbrev pub programLine : Files → List ℕ
 programLine files = orBig (λ all. lineOf (verdictOf all)) files
 
--- a line in the hand of the program: its length, and its bytes at the start of an array, in which those past it are 0
+-- a line in the hand of the program: its length, and its bytes at the start of an array, in which those past it are 0. The longest is `OK`,
+-- the counts and the line feed
 abbrev pub lineRoom : ℕ
-lineRoom = 45
+lineRoom = 3 + 6 * fileCount
 
 unfoldable pub lineIn : List ℕ → Line
 lineIn s = record { len = length s; bytes = s ++ replicate (lineRoom - length s) 0 }

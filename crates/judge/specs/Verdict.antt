@@ -1,4 +1,4 @@
--- The verdict on a delivery: the seven counts and the first break, by the tens of the reason, then file, record, field and reason.
+-- The verdict on a delivery: the eight counts and the first break, by the tens of the reason, then file, record, field and reason.
 -- Assumes nothing.
 use Rattle.laws.specs.Nest.{run}
 use Rattle.record.specs.declared.reason.Finding.{Finding}

@@ -1,6 +1,7 @@
-// The verdict on a delivery: seven files in, the counts and the first break out.
+// The verdict on a delivery: eight files in, the counts and the first break out.
 use fifties::group::check_topology;
 use keys::group::check_keys;
+use objects::group::check_objects;
 use record::check::check_fields;
 use record::check::check_shape;
 use record::cut::records;
@@ -23,8 +24,11 @@ ghost use Rattle.judge.specs.Broken.{countsOf};
 ghost use Rattle.judge.specs.Verdict.{verdictOf};
 ghost use Rattle.judge.specs.machinery.Searched.{groupAt, searched};
 
-// The groups of reasons, by their tens: 10 to 50.
-pub const GROUPS: usize = 5;
+// The groups of reasons: 10 to 50, and 70.
+pub const GROUPS: usize = 6;
+
+// The tens of the last.
+pub const LAST_TEN: usize = 7;
 
 // The first break, where there is one, and beside it how many whole records each file has.
 pub struct Verdict {
@@ -78,6 +82,7 @@ fn check_group<'a>(t: usize, files: [&'a [u8]; FILES]) -> Finding
         3 => check_keys(3, files),
         4 => check_keys(4, files),
         5 => check_topology(files),
+        7 => check_objects(files),
         _ => Finding::Fine,
     }
 }
@@ -87,7 +92,7 @@ fn first_break<'a>(files: [&'a [u8]; FILES]) -> Finding
     ensures { λ r. ⌜ r ≡ searched (filesOf (map now (files .entry))) ⌝ }
 {
     let mut t = 0;
-    while t <= GROUPS {
+    while t <= LAST_TEN {
         let v = check_group(t, files);
         if v.is_fine() {
             t += 1;
@@ -119,7 +124,7 @@ fn count_all<'a>(files: [&'a [u8]; FILES]) -> [usize; FILES]
     counts
 }
 
-// Judges a delivery: seven files, in any state; an absent one is empty.
+// Judges a delivery: eight files, in any state; an absent one is empty.
 pub fn judge<'a>(files: [&'a [u8]; FILES]) -> Verdict
     ensures { λ r. ⌜ r ≡ verdictOf (filesOf (map now (files .entry))) ⌝ }
 {

@@ -1,4 +1,4 @@
-// The verdict program's line: `OK` and seven counts, `NO` and the break, or `BIG` and the file.
+// The verdict program's line: `OK` and eight counts, `NO` and the break, or `BIG` and the file.
 use crate::judge::Verdict;
 use crate::judge::judge;
 use field::number::put_number;
@@ -19,10 +19,13 @@ ghost use Rattle.field.specs.Digits.{digits};
 // The program takes no file of more bytes.
 pub const BIG: usize = 8192;
 
-// A line of up to 45 bytes, its line feed among them; what lies past it is 0.
+// The bytes of the longest line, its line feed among them: `OK` and the counts.
+const LINE: usize = 51;
+
+// A line; what lies past it is 0.
 pub struct Line {
     pub len: usize,
-    pub bytes: [u8; 45],
+    pub bytes: [u8; LINE],
 }
 
 // Puts n in w digits at a place, after a blank: what stood before it and past it stays.
@@ -40,7 +43,7 @@ fn put_word(buf: &mut [u8], at: usize, w: usize, n: usize) -> usize
 fn count_line(counts: [usize; FILES]) -> Line
     ensures { λ r. ⌜ r ≡ lineIn (79 ∷ 75 ∷ countWords counts) ⌝ }
 {
-    let mut bytes = [0u8; 45];
+    let mut bytes = [0u8; LINE];
     bytes[0] = 79;
     bytes[1] = 75;
     let mut at = 2;
@@ -50,14 +53,14 @@ fn count_line(counts: [usize; FILES]) -> Line
         i += 1;
     }
     bytes[at] = 10;
-    Line { len: 45, bytes }
+    Line { len: LINE, bytes }
 }
 
 fn break_line(b: Break) -> Line
     ensures { λ r. ⌜ r ≡ lineIn (breakLine b) ⌝ }
 {
     let reason = b.reason;
-    let mut bytes = [0u8; 45];
+    let mut bytes = [0u8; LINE];
     bytes[0] = 78;
     bytes[1] = 79;
     let at = put_word(&mut bytes, 2, 2, reason.number() as usize);
@@ -107,7 +110,7 @@ pub fn first_big<'a>(files: [&'a [u8]; FILES]) -> usize
 pub fn big_line(file: usize) -> Line
     ensures { λ r. ⌜ r ≡ lineIn (bigLine file) ⌝ }
 {
-    let mut bytes = [0u8; 45];
+    let mut bytes = [0u8; LINE];
     bytes[0] = 66;
     bytes[1] = 73;
     bytes[2] = 71;
@@ -116,7 +119,7 @@ pub fn big_line(file: usize) -> Line
     Line { len: 6, bytes }
 }
 
-// The line that the program prints of seven files, in any state; an absent one is empty.
+// The line that the program prints of eight files, in any state; an absent one is empty.
 pub fn program_line<'a>(files: [&'a [u8]; FILES]) -> Line
     ensures { λ r. ⌜ r ≡ lineIn (programLine (filesOf (map now (files .entry)))) ⌝ }
 {

@@ -10,9 +10,9 @@ use mathlib.Core.Logic.{⊎-elim}
 use native.Mathlib.Nat.{le-of-suc-le-suc, not-suc-le-zero, eq-or-lt-of-le}
 use native.Mathlib.Numerals.{add-one}
 use native.Mathlib.Omega.{arith}
-use lib.Dec.{leb}
+use lib.Dec.{leb, eqb}
 use lib.ListN.{getD}
-use borrow.Author.Tests.{leb-true, leb-false}
+use borrow.Author.Tests.{leb-true, leb-false, eqb-true}
 use Rattle.laws.specs.Find.{hit, firstOf, firstIndex}
 use Rattle.laws.specs.Row.{pick}
 use Rattle.laws.proofs.FindLaws.{true-false, hit-some, hit-none, none-at, some-at, first-none, first-here, index-same, index-none-at, index-some-at}
@@ -190,6 +190,15 @@ module _ (tests : Tests) (k : Kind) (n : ℕ) {t : Tally} (e : t ≡ tallyIn tes
   tally-fine reasons h =
       ap findingOf (sym (cells-none (cellTest tests) (cellAnswer reasons k) n (cellsOf k) (said .nowhere h)))
       ∙ sym (group-is tests reasons k n)
+
+-- A CELL c that is not the one of field f and reason u
+pub not-cell : (c f u : ℕ) → (c ≡ f * 10 + u → ⊥) → (eqb (c / 10) f && eqb (c % 10) u) ≡ false
+not-cell c f u ne = go (eqb (c / 10) f) refl (eqb (c % 10) u) refl
+  where
+    go : (s : Bool) → eqb (c / 10) f ≡ s → (t : Bool) → eqb (c % 10) u ≡ t → (s && t) ≡ false
+    go true a true b = absurd (ne (omega (arith, eqb-true (c / 10) f a, eqb-true (c % 10) u b)))
+    go true a false b = refl
+    go false a t b = refl
 
 -- CELLS of a file, gone over by ranges
 cell-at : (tests : Tests) (f u i : ℕ) → u < 10 → getD (tests i f) u false ≡ cellTest tests i (f * 10 + u)

@@ -69,6 +69,15 @@ module _ {l : List ℕ} {key : ℕ → ℕ} {m n : ℕ} (fills : Fills l key m n
   unfolding dangles
   dangles-filled x = rw (names-column x)
 
+  -- where there is nothing to be named, each name that is there dangles
+  pub dangles-none : n ≡ 0 → (x : ℕ) → not (eqb x 0) ≡ dangles key m x
+  unfolding dangles any
+  dangles-none e x = let z : m ≡ 0 = sym (fills .count) ∙ e in rw z (alone (not (eqb x 0)))
+    where
+      alone : (b : Bool) → b ≡ (b && true)
+      alone true = refl
+      alone false = refl
+
 -- KEYS THAT ARE APART: no two records have one
 apart-one : (key : ℕ → ℕ) (n : ℕ) → firstDuplicate key n ≡ none → {i j : ℕ} → i < j → j < n → key i ≡ key j → ⊥
 apart-one key n d {i} {j} l u e =

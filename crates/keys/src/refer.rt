@@ -143,7 +143,7 @@ pub(crate) fn tally_known<'a, 'b>(
     tally_unknown(t, refs, m, keys, order, hints, way, n, cell, marks)
 }
 
-// One cell more: the records of s whose field f names no record of `to` by its field g.
+// One cell more: the records of s whose field f names no record of `to` by its field g. Where `to` has none, a name that is there is enough.
 pub(crate) fn tally_dangling<'a>(
     t: Tally,
     s: &'a [u8],
@@ -163,6 +163,9 @@ pub(crate) fn tally_dangling<'a>(
     ensures { λ r. ⌜ OneMore t (λ i. dangles (λ j. nameAt other (tableOf (now («to» .entry)) other) j g) (tableOf (now («to» .entry)) other .count) (nameAt k (tableOf (now (s .entry)) k) i f)) (tableOf (now (s .entry)) k .count) cell r ⌝ }
 {
     let n = fill_names(to, other, g, names);
+    if n == 0 {
+        return tally_present(t, s, k, f, cell, marks);
+    }
     let way = prepare(names, n, hints, order);
     tally_known(t, s, k, f, names, order, hints, way, n, cell, refs, marks)
 }

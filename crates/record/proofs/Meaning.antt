@@ -80,6 +80,7 @@ known R.Missing64 l = absurd (omega arith)
 known R.Outside65 l = absurd (omega arith)
 known R.NoSuchRecord66 l = absurd (omega arith)
 known R.TooMany67 l = absurd (omega arith)
+known R.IdleComposite70 l = absurd (omega arith)
 
 pub reason-one : (r q : Reason) → numberOf r ≡ numberOf q → numberOf r < 30 → r ≡ q
 reason-one r q e l = sym (known r l) ∙ ap (λ (n : ℕ). reasonAt (n / 10) (n % 10)) e ∙ known q (omega arith)

@@ -12,9 +12,9 @@ use borrow.Author.Tests.{leb-true, eq-eqb, not-true}
 use Rattle.laws.specs.Row.{row, each}
 use Rattle.laws.proofs.RowLaws.{and-true, length-row, row-at, each-at}
 use Rattle.record.specs.declared.kind.Kind.{Kind}
-use Rattle.record.specs.declared.kind.Kind.the-variants.{Catalogo, ObPun, ObTex, ObLin, Tramo, Vertice, Nodo}
+use Rattle.record.specs.declared.kind.Kind.the-variants.{Catalogo, ObPun, ObTex, ObLin, Tramo, Vertice, Nodo, ObComp}
 use Rattle.record.specs.declared.kind.Which.the-variants.{NoFile, File}
-use Rattle.record.specs.Table.{Col, whole, cols, roomIn, roomOf, offsetIn, lengthIn, colAt, formAt, widthAt, ownAt, offsetAt, keysOf, kinds, mostFields, widest, fieldsOf, lengthOf, fileOf, whichOf, isN}
+use Rattle.record.specs.Table.{Col, whole, cols, roomIn, roomOf, offsetIn, lengthIn, colAt, formAt, widthAt, ownAt, offsetAt, keysOf, kinds, fileCount, mostFields, widest, fieldsOf, lengthOf, fileOf, whichOf, isN}
 
 -- A TABLE: a test of every element holds at every index, where it holds of the default
 pub each-getD : {A : Type 0} (p : A → Bool) (xs : List A) (d : A) → p d ≡ true → each p xs ≡ true → (i : ℕ) → p (getD xs i d) ≡ true
@@ -59,6 +59,7 @@ kind-at ObLin = refl
 kind-at Tramo = refl
 kind-at Vertice = refl
 kind-at Nodo = refl
+kind-at ObComp = refl
 
 -- a file has its number alone
 pub file-same : (j k : Kind) → fileOf j ≡ fileOf k → j ≡ k
@@ -175,7 +176,7 @@ pub past : {A : Type 0} (g : Col → A) (k : Kind) (f : ℕ) → 16 ≤ f → g 
 past g k f l = ap g (sym (col-past k f (omega (arith, sane k))))
 
 -- THE FILES' NUMBERS: every other number is no file's,
-pub which-rest : (n : ℕ) → NoneOf (numbers 1 7) n → NoFile ≡ whichOf n
+pub which-rest : (n : ℕ) → NoneOf (numbers 1 fileCount) n → NoFile ≡ whichOf n
 unfolding whichOf
 which-rest n o = default-at NoFile 1 (map File kinds) n o
 
@@ -189,3 +190,4 @@ which-file ObLin = refl
 which-file Tramo = refl
 which-file Vertice = refl
 which-file Nodo = refl
+which-file ObComp = refl

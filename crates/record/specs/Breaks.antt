@@ -50,6 +50,7 @@ numberOf R.Missing64 = 64
 numberOf R.Outside65 = 65
 numberOf R.NoSuchRecord66 = 66
 numberOf R.TooMany67 = 67
+numberOf R.IdleComposite70 = 70
 
 abbrev pub breakOf : Reason → Kind → ℕ → ℕ → Break
 breakOf reason k i f = record { reason = reason; file = fileOf k; «record» = i; field = f }

@@ -72,8 +72,9 @@ isSignByte b = eqb b 43 || eqb b 45
 -- a word is within a domain, by its one byte
 unfoldable pub wordWithin : Domain → List ℕ → Bool
 wordWithin Any t = true
--- P, X, L or T
-wordWithin ObjectType t = eqb (getD t 0 0) 80 || eqb (getD t 0 0) 88 || eqb (getD t 0 0) 76 || eqb (getD t 0 0) 84
+-- P, X, L, T or C
+wordWithin ObjectType t =
+    eqb (getD t 0 0) 80 || eqb (getD t 0 0) 88 || eqb (getD t 0 0) 76 || eqb (getD t 0 0) 84 || eqb (getD t 0 0) 67
 wordWithin PlusMinus t = isSignByte (getD t 0 0)
 -- A isolated, C connected, E end, I intermediate, H both
 wordWithin NodeType t =

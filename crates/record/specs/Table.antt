@@ -1,4 +1,4 @@
--- The seven files, one row each (document 01, "What the box receives", "A lawful record", "Keys" and "References"). Whatever differs from
+-- The eight files, one row each (document 01, "What the box receives", "A lawful record", "Keys" and "References"; document 02, W-204). Whatever differs from
 -- file to file stands here, once; offsets, lengths, numbers of fields and keys are computed.
 -- Assumes nothing.
 use Prim.Native.Nat.{ℕ, zero, suc, _+_}
@@ -7,7 +7,7 @@ use mathlib.Core.List.{List, [], _∷_, map}
 use lib.ListN.{length, getD}
 use Rattle.laws.specs.Row.{pick}
 use Rattle.record.specs.declared.kind.Kind.{Kind}
-use Rattle.record.specs.declared.kind.Kind.the-variants.{Catalogo, ObPun, ObTex, ObLin, Tramo, Vertice, Nodo}
+use Rattle.record.specs.declared.kind.Kind.the-variants.{Catalogo, ObPun, ObTex, ObLin, Tramo, Vertice, Nodo, ObComp}
 use Rattle.record.specs.declared.kind.Form.{Form}
 use Rattle.record.specs.declared.kind.Form.the-variants.{Words, Code, Sign, Number, Size}
 use Rattle.record.specs.declared.kind.Domain.{Domain}
@@ -70,7 +70,7 @@ needsA k = single Number 10 always Any (To k 1)
 abbrev pub mayNameA : Kind → Col
 mayNameA k = single Number 10 never Any (To k 1)
 
--- an id that has no file in the base
+-- an id that has no file yet
 abbrev pub noFileYet : Col
 noFileYet = single Number 10 never Any Nowhere
 
@@ -134,21 +134,23 @@ abbrev pub rowOf : Kind → FileRow
 -- CODIGO, TIPO, NOMBRE_C, DEFINICI. Its own CODIGO refers to nothing
 rowOf Catalogo = fileRow 1 0 1 (single Code 7 always Any Free ∷ single Words 1 always ObjectType Free ∷ freeWord ∷ freeWord ∷ [])
 -- type P; own id, composite id, node id, CODIGO, name, orientation, M, position
-rowOf ObPun = fileRow 2 80 1 (need 10 ∷ noFileYet ∷ mayNameA Nodo ∷ code ∷ freeWord ∷ orientation ∷ may 3 ∷ position)
+rowOf ObPun = fileRow 2 80 1 (need 10 ∷ mayNameA ObComp ∷ mayNameA Nodo ∷ code ∷ freeWord ∷ orientation ∷ may 3 ∷ position)
 -- type X; own id, composite id, CODIGO, LITERAL, height, width, orientation, justification, position
-rowOf ObTex = fileRow 3 88 1 (need 10 ∷ noFileYet ∷ code ∷ freeWord ∷ need 3 ∷ may 3 ∷ orientation ∷ justification ∷ position)
+rowOf ObTex = fileRow 3 88 1 (need 10 ∷ mayNameA ObComp ∷ code ∷ freeWord ∷ need 3 ∷ may 3 ∷ orientation ∷ justification ∷ position)
 -- type L; own id, composite id, CODIGO, name, centroid
-rowOf ObLin = fileRow 4 76 1 (need 10 ∷ noFileYet ∷ code ∷ freeWord ∷ centroid)
+rowOf ObLin = fileRow 4 76 1 (need 10 ∷ mayNameA ObComp ∷ code ∷ freeWord ∷ centroid)
 -- type T; own id, linear object id, perimeter id, line id, CODIGO, start node, end node, sense
 rowOf Tramo = fileRow 5 84 1 (need 10 ∷ needsA ObLin ∷ noFileYet ∷ ownLine ∷ code ∷ needsA Nodo ∷ needsA Nodo ∷ single Words 1 never PlusMinus Free ∷ [])
 -- line id, which a tramo uses, order, position
 rowOf Vertice = fileRow 6 0 2 (single Number 10 always Any (To Tramo 4) ∷ need 5 ∷ position)
 -- own id, TIPO, position
 rowOf Nodo = fileRow 7 0 1 (need 10 ∷ single Words 1 never NodeType Free ∷ position)
+-- type C; own id, CODIGO, name, centroid
+rowOf ObComp = fileRow 8 67 1 (need 10 ∷ code ∷ freeWord ∷ centroid)
 
 -- the kinds, in the order of their files' numbers
 abbrev pub kinds : List Kind
-kinds = Catalogo ∷ ObPun ∷ ObTex ∷ ObLin ∷ Tramo ∷ Vertice ∷ Nodo ∷ []
+kinds = Catalogo ∷ ObPun ∷ ObTex ∷ ObLin ∷ Tramo ∷ Vertice ∷ Nodo ∷ ObComp ∷ []
 
 -- so many files there are
 abbrev pub fileCount : ℕ

@@ -260,6 +260,19 @@ fn nodo(rec: &[u8]) -> bool
         & position(rec, 13)
 }
 
+fn ob_comp(rec: &[u8]) -> bool
+    ensures { λ r. ⌜ (r ≡ true → (i : ℕ) → recordFinding (now (rec .entry)) Kind.ObComp i ≡ Finding.Fine) ⌝ }
+{
+    if rec.len() != 117 {
+        return false;
+    }
+    ends(rec, 115)
+        & need(rec, 0, 10)
+        & code(rec, 11)
+        & may(Class::Plain, rec, 19, 60)
+        & (position(rec, 80) | nowhere(rec, 80))
+}
+
 // Whether a glance tells that nothing is broken in a record.
 pub(crate) fn plainly_lawful(rec: &[u8], k: Kind) -> bool
     ensures { λ r. ⌜ (r ≡ true → (i : ℕ) → recordFinding (now (rec .entry)) k i ≡ Finding.Fine) ⌝ }
@@ -272,5 +285,6 @@ pub(crate) fn plainly_lawful(rec: &[u8], k: Kind) -> bool
         Kind::Tramo => tramo(rec),
         Kind::Vertice => vertice(rec),
         Kind::Nodo => nodo(rec),
+        Kind::ObComp => ob_comp(rec),
     }
 }

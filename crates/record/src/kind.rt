@@ -14,12 +14,13 @@
 //     end node N10, 8 sense A1
 //   6 VERTICE, 54 bytes: 1 line id N10, 2 order N5, 3 sign A1, 4 X N9, 5 sign A1, 6 Y N10, 7 sign A1, 8 Z N8
 //   7 NODO, 50 bytes: 1 own id N10, 2 TIPO A1, 3 sign A1, 4 X N9, 5 sign A1, 6 Y N10, 7 sign A1, 8 Z N8
+//   8 OB_COMP, 117 bytes: 1 own id N10, 2 CODIGO A7, 3 name A60, 4 sign A1, 5 X N9, 6 sign A1, 7 Y N10, 8 sign A1, 9 Z N8
 ghost use mathlib.Core.Path.{_≡_};
 ghost use Prim.Native.Nat.{_≤_};
 ghost use Rattle.record.specs.Table.{fieldsOf, mostFields, lengthOf, keysOf, fileOf, letterOf, xField, whichOf, isN, isCode};
 
 // How many kinds there are.
-pub const FILES: usize = 7;
+pub const FILES: usize = 8;
 
 // At most so many records a file.
 pub const LIMIT: usize = 16384;
@@ -42,6 +43,7 @@ pub enum Kind {
     Tramo,
     Vertice,
     Nodo,
+    ObComp,
 }
 
 // The kind of a file's number, where there is one.
@@ -59,7 +61,7 @@ pub enum Form {
     Size,
 }
 
-// What a field may say, where its bytes are sound: anything; of words P, X, L or T; + or -; A, C, E, I or H; of numbers degrees and
+// What a field may say, where its bytes are sound: anything; of words P, X, L, T or C; + or -; A, C, E, I or H; of numbers degrees and
 // minutes; 1 to 9.
 pub enum Domain {
     Any,
@@ -115,6 +117,7 @@ pub fn kind_of(file: usize) -> Which
         5 => Which::File(Kind::Tramo),
         6 => Which::File(Kind::Vertice),
         7 => Which::File(Kind::Nodo),
+        8 => Which::File(Kind::ObComp),
         _ => Which::NoFile,
     }
 }
@@ -132,6 +135,7 @@ impl Kind {
             Kind::Tramo => 5,
             Kind::Vertice => 6,
             Kind::Nodo => 7,
+            Kind::ObComp => 8,
         }
     }
 
@@ -147,6 +151,7 @@ impl Kind {
             Kind::Tramo => 84,
             Kind::Vertice => 0,
             Kind::Nodo => 0,
+            Kind::ObComp => 67,
         }
     }
 
@@ -162,6 +167,7 @@ impl Kind {
             Kind::Tramo => 1,
             Kind::Vertice => 2,
             Kind::Nodo => 1,
+            Kind::ObComp => 1,
         }
     }
 
@@ -177,6 +183,7 @@ impl Kind {
             Kind::Tramo => 8,
             Kind::Vertice => 8,
             Kind::Nodo => 8,
+            Kind::ObComp => 9,
         }
     }
 
@@ -192,6 +199,7 @@ impl Kind {
             Kind::Tramo => 77,
             Kind::Vertice => 54,
             Kind::Nodo => 50,
+            Kind::ObComp => 117,
         }
     }
 
@@ -208,6 +216,7 @@ impl Kind {
             Kind::Tramo => 0,
             Kind::Vertice => 4,
             Kind::Nodo => 4,
+            Kind::ObComp => 5,
         }
     }
 }

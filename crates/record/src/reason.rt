@@ -46,7 +46,7 @@ pub enum Reason {
     NodeType58,
     // The tramo's line has no vertex of highest order.
     NoLastVertex59,
-    // The file number is outside 1 to 7.
+    // The file number is outside 1 to 8.
     NoFile60,
     // The lent room is shorter than the record, or than the grid.
     ShortRoom61,
@@ -62,6 +62,8 @@ pub enum Reason {
     NoSuchRecord66,
     // A cell of two grids' sum is over 9,999,999,999.
     TooMany67,
+    // The composite is named by no object.
+    IdleComposite70,
 }
 
 // A reason and its place. Files, records and fields are counted from 1; field 0 is the record, and record 0 the file.
@@ -113,6 +115,7 @@ impl Reason {
             Reason::Outside65 => 65,
             Reason::NoSuchRecord66 => 66,
             Reason::TooMany67 => 67,
+            Reason::IdleComposite70 => 70,
         }
     }
 }

@@ -134,7 +134,7 @@ impl Domain {
         let b = byte(t, 0);
         match self {
             Domain::Any => true,
-            Domain::ObjectType => (b == 80) | (b == 88) | (b == 76) | (b == 84),
+            Domain::ObjectType => (b == 80) | (b == 88) | (b == 76) | (b == 84) | (b == 67),
             Domain::PlusMinus => is_sign_byte(b),
             Domain::NodeType => (b == 65) | (b == 67) | (b == 69) | (b == 73) | (b == 72),
             Domain::Orientation => true,

@@ -80,6 +80,7 @@ impl Kind {
             Kind::Tramo => 0x0000000033133330,
             Kind::Vertice => 0x0000000424242330,
             Kind::Nodo => 0x0000000424242030,
+            Kind::ObComp => 0x0000004242420130,
         }
     }
 
@@ -95,6 +96,7 @@ impl Kind {
             Kind::Tramo => 0x0000000000000000,
             Kind::Vertice => 0x0000000000000000,
             Kind::Nodo => 0x0000000000000000,
+            Kind::ObComp => 0x0000000000003000,
         }
     }
 
@@ -110,6 +112,7 @@ impl Kind {
             Kind::Tramo => 0x00000001aa7aaaa0,
             Kind::Vertice => 0x000000081a1915a0,
             Kind::Nodo => 0x000000081a1911a0,
+            Kind::ObComp => 0x00000081a191c7a0,
         }
     }
 
@@ -125,6 +128,7 @@ impl Kind {
             Kind::Tramo => 0x4444444433221000,
             Kind::Vertice => 0x3333333221111000,
             Kind::Nodo => 0x3333333221100000,
+            Kind::ObComp => 0x7777776655551000,
         }
     }
 
@@ -140,6 +144,7 @@ impl Kind {
             Kind::Tramo => 0xcccccccaf4c16b00,
             Kind::Vertice => 0x5555555cafd31b00,
             Kind::Nodo => 0x111111186b9fdb00,
+            Kind::ObComp => 0x444444b9ec203b00,
         }
     }
 
@@ -155,6 +160,7 @@ impl Kind {
             Kind::Tramo => 0x0000000011100110,
             Kind::Vertice => 0x0000000001111110,
             Kind::Nodo => 0x0000000001111010,
+            Kind::ObComp => 0x0000000000000110,
         }
     }
 
@@ -170,6 +176,7 @@ impl Kind {
             Kind::Tramo => 0x0000000000000000,
             Kind::Vertice => 0x0000000101010000,
             Kind::Nodo => 0x0000000101010000,
+            Kind::ObComp => 0x0000001032100000,
         }
     }
 
@@ -185,6 +192,7 @@ impl Kind {
             Kind::Tramo => 0x0000000000000000,
             Kind::Vertice => 0x0000000010101000,
             Kind::Nodo => 0x0000000010101000,
+            Kind::ObComp => 0x0000000123450000,
         }
     }
 
@@ -200,6 +208,7 @@ impl Kind {
             Kind::Tramo => 0x0000000200000000,
             Kind::Vertice => 0x0000000020202000,
             Kind::Nodo => 0x0000000020202300,
+            Kind::ObComp => 0x0000000202020000,
         }
     }
 
@@ -209,12 +218,13 @@ impl Kind {
     {
         match self {
             Kind::Catalogo => 0x0000000000000000,
-            Kind::ObPun => 0x0000000000017f00,
-            Kind::ObTex => 0x0000000000001f00,
-            Kind::ObLin => 0x0000000000001f00,
+            Kind::ObPun => 0x0000000000017800,
+            Kind::ObTex => 0x0000000000001800,
+            Kind::ObLin => 0x0000000000001800,
             Kind::Tramo => 0x000000007716f400,
             Kind::Vertice => 0x0000000000000050,
             Kind::Nodo => 0x0000000000000000,
+            Kind::ObComp => 0x0000000000000100,
         }
     }
 
@@ -224,12 +234,13 @@ impl Kind {
     {
         match self {
             Kind::Catalogo => 0x0000000000000000,
-            Kind::ObPun => 0x0000000000011000,
-            Kind::ObTex => 0x0000000000001000,
-            Kind::ObLin => 0x0000000000001000,
+            Kind::ObPun => 0x0000000000011100,
+            Kind::ObTex => 0x0000000000001100,
+            Kind::ObLin => 0x0000000000001100,
             Kind::Tramo => 0x0000000011110100,
             Kind::Vertice => 0x0000000000000040,
             Kind::Nodo => 0x0000000000000000,
+            Kind::ObComp => 0x0000000000000100,
         }
     }
 
@@ -245,6 +256,7 @@ impl Kind {
             Kind::Tramo => 0x0000000000010000,
             Kind::Vertice => 0x0000000000000000,
             Kind::Nodo => 0x0000000000000000,
+            Kind::ObComp => 0x0000000000000000,
         }
     }
 

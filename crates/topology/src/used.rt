@@ -55,7 +55,7 @@ pub(crate) fn mark_named<'a>(
 }
 
 // The records that field f of a record of s names are in use; the names are read into lent room.
-pub(crate) fn mark_used<'a, 'b>(
+pub fn mark_used<'a, 'b>(
     s: &'a [u8],
     k: Kind,
     f: usize,
@@ -125,7 +125,7 @@ fn is_free(found: Found, used: &[u8], most: u8) -> bool
 }
 
 // Marks the records at which less than a number stands, 1 for those that are not in use: an id's record is the one that its look-up finds.
-pub(crate) fn mark_unheld<'a>(
+pub fn mark_unheld<'a>(
     ids: &'a [u64],
     order: &'a [usize],
     hints: &'a [u16],

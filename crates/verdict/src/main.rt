@@ -1,4 +1,4 @@
-// The box's program: reads the seven files from the working directory and prints the verdict's one line. Where a file can't be read, no
+// The box's program: reads the eight files from the working directory and prints the verdict's one line. Where a file can't be read, no
 // line is printed.
 use folder::ALL;
 use folder::any_failed;

@@ -63,9 +63,26 @@ array-read-part-7 c = search needs
 part-requires-7 : tie.Need-part-requires-7
 part-requires-7 c κs = search needs
 
+mul-part-6 : tie.Need-mul-part-6
+mul-part-6 c = search needs
+
+array-read-part-8 : tie.Need-array-read-part-8
+array-read-part-8 c = search needs
+
+part-requires-8 : tie.Need-part-requires-8
+part-requires-8 c κs = search needs
+
 returns : tie.Need-returns
 unfolding filesRead row
-returns c = rw (c .part7 .ensures, c .before .part6 .ensures, c .before .before .part5 .ensures, c .before .before .before .part4 .ensures, c .before .before .before .before .part3 .ensures, c .before .before .before .before .before .part2 .ensures, c .before .before .before .before .before .before .part .ensures)
+returns c =
+    let p7 = c .before in
+    let p6 = p7 .before in
+    let p5 = p6 .before in
+    let p4 = p5 .before in
+    let p3 = p4 .before in
+    let p2 = p3 .before in
+    let p1 = p2 .before in
+    rw (c .part8 .ensures, p7 .part7 .ensures, p6 .part6 .ensures, p5 .part5 .ensures, p4 .part4 .ensures, p3 .part3 .ensures, p2 .part2 .ensures, p1 .part .ensures)
 
 pub files-in-spec : {M : Type 1} → statement M
 files-in-spec =
@@ -90,4 +107,7 @@ files-in-spec =
     mul-part-5
     array-read-part-7
     part-requires-7
+    mul-part-6
+    array-read-part-8
+    part-requires-8
     returns)

@@ -14,7 +14,8 @@ use Rattle.record.specs.Breaks.{findingOf, shapeFinding, fieldsFinding, broken}
 use Rattle.keys.specs.machinery.Groups.{breakIn, overFiles}
 use Rattle.keys.specs.machinery.Findings.{keysFinding, keysBroken}
 use Rattle.fifties.specs.machinery.Findings.{topologyFinding, topologyBroken}
-use Rattle.judge.specs.Broken.{groups}
+use Rattle.objects.specs.machinery.Findings.{objectsFinding, objectsBroken}
+use Rattle.judge.specs.Broken.{lastTen}
 
 -- the first break of the reasons of a ten
 unfoldable pub groupAt : Files → ℕ → Finding
@@ -26,12 +27,14 @@ groupAt files t =
     ∷ keysFinding 3 (deliveryOf files)
     ∷ keysFinding 4 (deliveryOf files)
     ∷ topologyFinding (deliveryOf files)
+    ∷ Fine
+    ∷ objectsFinding (deliveryOf files)
     ∷ [])
     t Fine
 
 -- the first break, the tens in their order
 unfoldable pub searched : Files → Finding
-searched files = findingOf (firstOf (λ t. breakIn (groupAt files t)) (groups + 1))
+searched files = findingOf (firstOf (λ t. breakIn (groupAt files t)) (lastTen + 1))
 
 -- the test of the reason with the number n, as its crate has it
 unfoldable pub brokenIn : Files → ℕ → Kind → ℕ → ℕ → Bool
@@ -43,5 +46,7 @@ brokenIn files n k i f =
     ∷ keysBroken (deliveryOf files) k n i f
     ∷ keysBroken (deliveryOf files) k n i f
     ∷ topologyBroken (deliveryOf files) k n i f
+    ∷ false
+    ∷ objectsBroken (deliveryOf files) k n i f
     ∷ [])
     (n / 10) false

@@ -6,6 +6,7 @@ use borrow.Author.Needs.{needs}
 use Rattle.index.specs.declared.tally.Tally.{Tally}
 use Rattle.keys.specs.machinery.Cells.{keyTallies}
 use Rattle.fifties.specs.machinery.Cells.{fiftyTallies}
+use Rattle.objects.specs.machinery.Cells.{seventyTallies}
 use Rattle.grids.specs.machinery.Counted.{countedIn, countedOf}
 use Rattle.grids.proofs.GridLaws.{counted-else}
 use Rattle.grids.proofs.grid.count_ten.Statement.{statement}
@@ -35,6 +36,12 @@ tally-topology-requires c κs = search needs
 many-of-requires-3 : tie.Need-many-of-requires-3
 many-of-requires-3 c κs = search needs
 
+tally-objects-requires : tie.Need-tally-objects-requires
+tally-objects-requires c κs = search needs
+
+many-of-requires-4 : tie.Need-many-of-requires-4
+many-of-requires-4 c κs = search needs
+
 returns : tie.Need-returns
 returns c = rw (c .before .match .keys1) (c .count-files .ensures)
 
@@ -54,7 +61,11 @@ unfolding countedOf countedIn fiftyTallies
 returns-5 c = rw (c .before .before .match .keys5) (c .many-of3 .ensures ∙ ap (map (λ (t : Tally). t .many)) (c .before .tally-topology .ensures))
 
 returns-6 : tie.Need-returns-6
-returns-6 c = counted-else _ _ (c .match .rest)
+unfolding countedOf countedIn seventyTallies
+returns-6 c = rw (c .before .before .match .keys6) (c .many-of4 .ensures ∙ ap (map (λ (t : Tally). t .many)) (c .before .tally-objects .ensures))
+
+returns-7 : tie.Need-returns-7
+returns-7 c = counted-else _ _ (c .match .rest)
 
 pub count-ten-spec : {M : Type 1} → statement M
 count-ten-spec =
@@ -68,9 +79,12 @@ count-ten-spec =
     many-of-requires-2
     tally-topology-requires
     many-of-requires-3
+    tally-objects-requires
+    many-of-requires-4
     returns
     returns-2
     returns-3
     returns-4
     returns-5
-    returns-6)
+    returns-6
+    returns-7)

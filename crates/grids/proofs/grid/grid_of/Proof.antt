@@ -11,17 +11,17 @@ use borrow.Author.Needs.{needs}
 use Rattle.laws.specs.Find.{any}
 use Rattle.record.specs.Files.{filesOf}
 use Rattle.record.specs.Table.{fileCount}
-use Rattle.judge.specs.Broken.{groups}
+use Rattle.judge.specs.Broken.{lastTen}
 use Rattle.grids.specs.machinery.Counted.{columnOf}
 use Rattle.grids.proofs.GridLaws.{Quiet, quiet-start, quiet-more, quiet-here, quiet-end}
 use Rattle.grids.proofs.grid.grid_of.Statement.{statement}
 use Rattle.grids.proofs.grid.grid_of.Tie as tie
 
 abbrev Inv-loop : tie.InvT-loop
-Inv-loop files t₀ t = (1 ≤ t) × (t ≤ groups + 1) × Quiet (filesOf (map now files)) t
+Inv-loop files t₀ t = (1 ≤ t) × (t ≤ lastTen + 1) × Quiet (filesOf (map now files)) t
 
 abbrev μ-loop : tie.MeasureT-loop
-μ-loop files t₀ t = groups + 1 - t
+μ-loop files t₀ t = lastTen + 1 - t
 
 loop-holds : tie.Need-loop-holds Inv-loop μ-loop
 loop-holds c = (omega arith, omega arith, quiet-start _)

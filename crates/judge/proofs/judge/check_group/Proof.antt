@@ -21,6 +21,9 @@ check-keys-requires-2 c κs = search needs
 check-topology-requires : tie.Need-check-topology-requires
 check-topology-requires c κs = search needs
 
+check-objects-requires : tie.Need-check-objects-requires
+check-objects-requires c κs = search needs
+
 returns : tie.Need-returns
 unfolding groupAt
 returns c = rw (c .before .match .keys1) (c .check-files .ensures)
@@ -42,7 +45,11 @@ unfolding groupAt
 returns-5 c = rw (c .before .match .keys5) (c .check-topology .ensures)
 
 returns-6 : tie.Need-returns-6
-returns-6 c = group-else _ _ (c .match .rest)
+unfolding groupAt
+returns-6 c = rw (c .before .match .keys6) (c .check-objects .ensures)
+
+returns-7 : tie.Need-returns-7
+returns-7 c = group-else _ _ (c .match .rest)
 
 pub check-group-spec : {M : Type 1} → statement M
 check-group-spec =
@@ -53,9 +60,11 @@ check-group-spec =
     check-keys-requires
     check-keys-requires-2
     check-topology-requires
+    check-objects-requires
     returns
     returns-2
     returns-3
     returns-4
     returns-5
-    returns-6)
+    returns-6
+    returns-7)

@@ -7,16 +7,16 @@ use denote.Ref.{now}
 use borrow.Author.Needs.{needs}
 use Rattle.record.specs.Files.{filesOf}
 use Rattle.keys.proofs.OverLaws.{Fines, fines-start, fines-more, fines-here, fines-end}
-use Rattle.judge.specs.Broken.{groups}
+use Rattle.judge.specs.Broken.{lastTen}
 use Rattle.judge.specs.machinery.Searched.{groupAt, searched}
 use Rattle.judge.proofs.judge.first_break.Statement.{statement}
 use Rattle.judge.proofs.judge.first_break.Tie as tie
 
 abbrev Inv-loop : tie.InvT-loop
-Inv-loop files t₀ t = Fines (groupAt (filesOf (map now files))) (groups + 1) t
+Inv-loop files t₀ t = Fines (groupAt (filesOf (map now files))) (lastTen + 1) t
 
 abbrev μ-loop : tie.MeasureT-loop
-μ-loop files t₀ t = groups + 1 - t
+μ-loop files t₀ t = lastTen + 1 - t
 
 loop-holds : tie.Need-loop-holds Inv-loop μ-loop
 loop-holds c = fines-start _ _

@@ -21,7 +21,7 @@ array-write-bytes-2 : tie.Need-array-write-bytes-2 Inv-loop μ-loop
 array-write-bytes-2 c = search needs
 
 loop-holds : tie.Need-loop-holds Inv-loop μ-loop
-loop-holds c = record { few = search needs; seven = search needs; place = search needs; so-far = record { room = refl; written = refl; rest = refl } }
+loop-holds c = record { few = search needs; all = search needs; place = search needs; so-far = record { room = refl; written = refl; rest = refl } }
 
 slice-aggregate-put-word : tie.Need-slice-aggregate-put-word Inv-loop μ-loop
 slice-aggregate-put-word c = search needs

@@ -46,6 +46,12 @@ enum-told-7 c = search needs
 nodo-requires : tie.Need-nodo-requires
 nodo-requires c κs = search needs
 
+enum-told-8 : tie.Need-enum-told-8
+enum-told-8 c = search needs
+
+ob-comp-requires : tie.Need-ob-comp-requires
+ob-comp-requires c κs = search needs
+
 returns : tie.Need-returns
 returns c e i = rw (c .before .enum-told .given .1) (c .catalogo .ensures e i)
 
@@ -67,6 +73,9 @@ returns-6 c e i = rw (c .before .enum-told6 .given .1) (c .vertice .ensures e i)
 returns-7 : tie.Need-returns-7
 returns-7 c e i = rw (c .before .enum-told7 .given .1) (c .nodo .ensures e i)
 
+returns-8 : tie.Need-returns-8
+returns-8 c e i = rw (c .before .enum-told8 .given .1) (c .ob-comp .ensures e i)
+
 pub plainly-lawful-spec : {M : Type 1} → statement M
 plainly-lawful-spec =
     tie.close
@@ -85,10 +94,13 @@ plainly-lawful-spec =
     vertice-requires
     enum-told-7
     nodo-requires
+    enum-told-8
+    ob-comp-requires
     returns
     returns-2
     returns-3
     returns-4
     returns-5
     returns-6
-    returns-7)
+    returns-7
+    returns-8)

@@ -34,9 +34,13 @@ unfolding whichOf
 returns-7 c = rw (c .match .keys7)
 
 returns-8 : tie.Need-returns-8
-returns-8 c = which-rest _ (c .match .rest)
+unfolding whichOf
+returns-8 c = rw (c .match .keys8)
+
+returns-9 : tie.Need-returns-9
+returns-9 c = which-rest _ (c .match .rest)
 
 pub kind-of-spec : {M : Type 1} → statement M
 kind-of-spec =
     tie.close
-    (tie.spec returns returns-2 returns-3 returns-4 returns-5 returns-6 returns-7 returns-8)
+    (tie.spec returns returns-2 returns-3 returns-4 returns-5 returns-6 returns-7 returns-8 returns-9)

@@ -1,0 +1,3 @@
+pub mod SeventyLaws
+pub mod Meaning
+pub mod Agree
