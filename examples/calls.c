@@ -26,6 +26,7 @@ enum {
     TRAMO = CANOPYRAIL_TRAMO,
     VERTICE = CANOPYRAIL_VERTICE,
     NODO = CANOPYRAIL_NODO,
+    OB_COMP = CANOPYRAIL_OB_COMP,
     FILES = CANOPYRAIL_FILES
 };
 enum { FIELDS = CANOPYRAIL_FIELDS, TEXT = CANOPYRAIL_TEXT, TEXTS = FIELDS * TEXT };
@@ -174,6 +175,15 @@ static void add_object(delivery *d, const char *id, const char *code, const char
     add(&d->files[OB_LIN], record);
 }
 
+static void add_composite(delivery *d, const char *id, const char *code)
+{
+    char record[256];
+
+    snprintf(record, sizeof record, "%10s|%7s|%60s|%1s|%9s|%1s|%10s|%1s|%8s\r\n", id, code, "", "",
+             "", "", "", "", "");
+    add(&d->files[OB_COMP], record);
+}
+
 static void add_tramo(delivery *d, const char *id, const char *object, const char *code,
                       const char *start, const char *end)
 {
@@ -305,7 +315,7 @@ static int refuses(uint64_t answer, uint64_t reason, uint64_t field)
 
 static void check_accepted(void)
 {
-    static const size_t counts[FILES + 1] = {0, 2, 0, 0, 1, 1, 2, 2};
+    static const size_t counts[FILES + 1] = {0, 2, 0, 0, 1, 1, 2, 2, 0};
     delivery s = small();
     delivery none = {0};
     delivery bar = changed(OB_LIN, 1, 4, "a|b");
@@ -318,7 +328,7 @@ static void check_accepted(void)
         CHECK(canopyrail_count(f, bytes, s.files[f].length) == counts[f]);
         CHECK(canopyrail_count(f, NULL, 0) == 0);
         CHECK(canopyrail_count(0, bytes, s.files[f].length) == 0);
-        CHECK(canopyrail_count(8, bytes, s.files[f].length) == 0);
+        CHECK(canopyrail_count(FILES + 1, bytes, s.files[f].length) == 0);
         give_back();
     }
     CHECK(is(0, 0, 0, 0, 0, 0));
@@ -418,9 +428,11 @@ static void check_table(void)
 {
     static const size_t lengths[FILES + 1] = {
         [CATALOGO] = 133, [OB_PUN] = 149, [OB_TEX] = 144, [OB_LIN] = 128, [TRAMO] = 77, [VERTICE] = 54, [NODO] = 50,
+        [OB_COMP] = 117,
     };
     static const size_t fields[FILES + 1] = {
         [CATALOGO] = 4, [OB_PUN] = 13, [OB_TEX] = 14, [OB_LIN] = 10, [TRAMO] = 8, [VERTICE] = 8, [NODO] = 8,
+        [OB_COMP] = 9,
     };
 
     for (size_t f = 1; f <= FILES; f++) {
@@ -437,9 +449,9 @@ static void check_table(void)
         CHECK(canopyrail_width(f, fields[f] + 1) == 0);
         CHECK(canopyrail_width(f, SIZE_MAX) == 0);
     }
-    CHECK(canopyrail_length(0) == 0 && canopyrail_length(8) == 0);
+    CHECK(canopyrail_length(0) == 0 && canopyrail_length(FILES + 1) == 0);
     CHECK(canopyrail_fields(0) == 0 && canopyrail_fields(SIZE_MAX) == 0);
-    CHECK(canopyrail_offset(0, 1) == 0 && canopyrail_width(8, 1) == 0);
+    CHECK(canopyrail_offset(0, 1) == 0 && canopyrail_width(FILES + 1, 1) == 0);
 }
 
 static size_t larger(size_t a, size_t b)
@@ -535,7 +547,7 @@ static void check_counts(void)
     delivery d = changed(TRAMO, 1, 6, "0000000008|0000000009");
     counted c = count(&s);
 
-    CHECK(FILES == 7 && GROUPS == 5 && CELLS == 35);
+    CHECK(FILES == 8 && GROUPS == 6 && CELLS == 48);
     CHECK(total(&c) == 0);
     CHECK(has(&d, TRAMO, 4, 2));
     d = changed(NODO, 1, 1, "         1;");
@@ -553,6 +565,42 @@ static void check_counts(void)
     add_node(&d, "0000000004", "000000000", "0000000000");
     add_node(&d, "0000000005", "000000000", "0000000000");
     CHECK(has(&d, NODO, 5, 5)); /* 56 three times, 54 twice */
+}
+
+/* S with its object in the composite 9, and a code for composites. */
+static delivery grouped(void)
+{
+    delivery d = changed(OB_LIN, 1, 2, "0000000009");
+
+    add_code(&d, "0500000", "C");
+    add_composite(&d, "0000000009", "0500000");
+    return d;
+}
+
+static void check_composites(void)
+{
+    delivery d = grouped();
+
+    CHECK(judge(&d) == 0);
+    /* A host that knows seven files passes no more: its composite ids name nothing. */
+    CHECK(is(judge_first(&d, 7), CANOPYRAIL_NO_RECORD, OB_LIN, 1, 2, 0));
+    CHECK(is(count_into(&d, 7, 35).answer, CANOPYRAIL_SHORT_ROOM, 0, 0, 0, 0));
+    add_composite(&d, "0000000000", "0500000");
+    CHECK(is(judge(&d), CANOPYRAIL_IDLE_COMPOSITE, OB_COMP, 2, 0, 0));
+    CHECK(judge(&d) == UINT64_C(7008000020000000));
+    add_composite(&d, "0000000001", "0500000");
+    CHECK(has(&d, OB_COMP, 6, 2)); /* the seventies are the sixth group */
+    add_composite(&d, "0000000009", "0500000");
+    CHECK(is(judge(&d), CANOPYRAIL_SAME_KEY, OB_COMP, 4, 1, 1));
+    d = grouped();
+    add_composite(&d, "0000000004", "0100000");
+    CHECK(is(judge(&d), CANOPYRAIL_OTHER_TYPE, OB_COMP, 2, 2, 'L'));
+    d = grouped();
+    add_composite(&d, "0000000004", "0500001");
+    CHECK(is(judge(&d), CANOPYRAIL_NO_RECORD, OB_COMP, 2, 2, 0));
+    d = grouped();
+    add_composite(&d, "         4", "0500000");
+    CHECK(is(judge(&d), CANOPYRAIL_NOT_NUMBER, OB_COMP, 2, 1, 0));
 }
 
 /* Each code of a node, where S's second one is an end and not intermediate. */
@@ -614,7 +662,7 @@ static void check_counted_room(void)
 /* The most that a cell of a sum may hold. */
 #define MOST UINT64_C(9999999999)
 
-/* A lent grid of so many cells, all different and small; past the 35th they are not looked at, and no sum would do. */
+/* A lent grid of so many cells, all different and small; past the 48th they are not looked at, and no sum would do. */
 static uint64_t *lend_cells(size_t cells_len, uint64_t step)
 {
     uint64_t *cells = lend(cells_len * sizeof *cells);
@@ -894,6 +942,17 @@ static void check_round_trips(void)
     v = node_at(100, -200);
     give_text(&v, 2, "E");
     check_round_trip(NODO, &v);
+
+    v = no_values();
+    give_number(&v, 1, 9999999999);
+    give_text(&v, 2, "0500000");
+    check_round_trip(OB_COMP, &v);
+    give_text(&v, 3, "Red|norte");
+    give_coordinate(&v, 5, -5);
+    give_coordinate(&v, 7, 0);
+    check_round_trip(OB_COMP, &v);
+    give_coordinate(&v, 9, -99999999);
+    check_round_trip(OB_COMP, &v);
 }
 
 /* Reads in lent memory; a refusal must leave it as it was. */
@@ -917,7 +976,7 @@ static void check_read_refusals(void)
 
     CHECK(read_exactly(NODO, nodes, 100, 2) == 0);
     CHECK(refuses(read_exactly(0, nodes, 100, 1), CANOPYRAIL_NO_FILE, 0));
-    CHECK(refuses(read_exactly(8, nodes, 100, 1), CANOPYRAIL_NO_FILE, 0));
+    CHECK(refuses(read_exactly(FILES + 1, nodes, 100, 1), CANOPYRAIL_NO_FILE, 0));
     CHECK(refuses(read_exactly(SIZE_MAX, NULL, 0, 0), CANOPYRAIL_NO_FILE, 0));
     CHECK(refuses(read_exactly(NODO, nodes, 100, 0), CANOPYRAIL_NO_SUCH_RECORD, 0));
     CHECK(refuses(read_exactly(NODO, nodes, 100, 3), CANOPYRAIL_NO_SUCH_RECORD, 0));
@@ -971,7 +1030,7 @@ static void check_write_refusals(void)
     for (size_t room = 50; room < 60; room++)
         CHECK(write_exactly(NODO, &v, FIELDS, room) == 0);
     CHECK(refuses(write_exactly(0, &v, FIELDS, 50), CANOPYRAIL_NO_FILE, 0));
-    CHECK(refuses(write_exactly(8, &v, FIELDS, 50), CANOPYRAIL_NO_FILE, 0));
+    CHECK(refuses(write_exactly(FILES + 1, &v, FIELDS, 50), CANOPYRAIL_NO_FILE, 0));
     CHECK(refuses(write_exactly(SIZE_MAX, &v, 0, 0), CANOPYRAIL_NO_FILE, 0));
     /* Past the end of shorter arrays every value is missing. */
     CHECK(write_exactly(NODO, &v, 6, 50) == 0);
@@ -1097,6 +1156,7 @@ static void check_all(void)
     check_long_file();
     check_beginnings();
     check_counts();
+    check_composites();
     check_codes();
     check_counted_entries();
     check_counted_room();

@@ -26,7 +26,7 @@ static const char *const names[FILES + 1] = {
     [CANOPYRAIL_CATALOGO] = "CATALOGO", [CANOPYRAIL_OB_PUN] = "OB_PUN",
     [CANOPYRAIL_OB_TEX] = "OB_TEX",     [CANOPYRAIL_OB_LIN] = "OB_LIN",
     [CANOPYRAIL_TRAMO] = "TRAMO",       [CANOPYRAIL_VERTICE] = "VERTICE",
-    [CANOPYRAIL_NODO] = "NODO",
+    [CANOPYRAIL_NODO] = "NODO",         [CANOPYRAIL_OB_COMP] = "OB_COMP",
 };
 
 /* A file in memory. No bytes are (NULL, 0). */
@@ -100,7 +100,7 @@ static int is_folder(const char *path)
     return stat(path, &found) == 0 && S_ISDIR(found.st_mode);
 }
 
-/* Reads the seven files; delivery[1] is CATALOGO. Answers the first that can't be read, or 0. */
+/* Reads the eight files; delivery[1] is CATALOGO. Answers the first that can't be read, or 0. */
 static size_t read_delivery(const char *directory, held delivery[FILES + 1])
 {
     size_t length = strlen(directory) + sizeof "/CATALOGO";

@@ -19,7 +19,7 @@
 
 enum { FILES = CANOPYRAIL_FILES, PAINT = 0xA5, ROOM = 2 * CANOPYRAIL_STACK, OTHERS = 64 * 1024 };
 
-static const char *const names[FILES] = {"CATALOGO", "OB_PUN", "OB_TEX", "OB_LIN", "TRAMO", "VERTICE", "NODO"};
+static const char *const names[FILES] = {"CATALOGO", "OB_PUN", "OB_TEX", "OB_LIN", "TRAMO", "VERTICE", "NODO", "OB_COMP"};
 static uint8_t *held[FILES];
 static canopyrail_bytes files[FILES];
 

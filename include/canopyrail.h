@@ -1,5 +1,5 @@
 /*
- * canopyrail.h: a checker and codec for MIGRA v1 map deliveries (chain-node profile, seven files).
+ * canopyrail.h: a checker and codec for MIGRA v1 map deliveries (chain-node profile, eight files).
  *
  * Link libcanopyrail.a (x86-64 Linux; of the C library it asks only memcpy and memset). Every call below is proved to meet its contract on every
  * input, damaged or empty, to stay within the memory that it is lent, and to end. docs/PROMISES.md says what is proved.
@@ -24,6 +24,12 @@
  * calls canopyrail_reason, _file, _record, _field and _other take it apart. As a decimal number it has the digits of
  * reason (2), file (2), record (5), field (2), other (5): 53 05 00001 07 00000. Calls on one record tell no file and no record: 0.
  * Calls on grids tell no place at all.
+ *
+ * HOSTS MADE WITH AN EARLIER HEADER. Before 0.2.4 a delivery had seven files, and a grid 35 cells. A host that was compiled then, and is
+ * linked with this archive, passes n = 7, so that OB_COMP is an empty file: an object's composite id is refused with 40 as it was, and
+ * reason 70 never comes. A code of TIPO C is in the domain now. Its grid of 35 cells is refused with 61, since 48 are needed, and nothing
+ * is written. No struct of this header has grown, and no call has changed its parameters. To judge composites it must be compiled anew,
+ * with eight entries.
  */
 #ifndef CANOPYRAIL_H
 #define CANOPYRAIL_H
@@ -38,11 +44,11 @@ extern "C" {
 /* The version of this header, and as one number; canopyrail_version() tells the archive's. */
 #define CANOPYRAIL_VERSION_MAJOR 0
 #define CANOPYRAIL_VERSION_MINOR 2
-#define CANOPYRAIL_VERSION_PATCH 3
+#define CANOPYRAIL_VERSION_PATCH 4
 #define CANOPYRAIL_VERSION (CANOPYRAIL_VERSION_MAJOR * 10000 + CANOPYRAIL_VERSION_MINOR * 100 + CANOPYRAIL_VERSION_PATCH)
 
 /* How many files a delivery has, and their numbers. */
-#define CANOPYRAIL_FILES 7
+#define CANOPYRAIL_FILES 8
 enum canopyrail_file_number {
     CANOPYRAIL_CATALOGO = 1,
     CANOPYRAIL_OB_PUN = 2,
@@ -50,11 +56,12 @@ enum canopyrail_file_number {
     CANOPYRAIL_OB_LIN = 4,
     CANOPYRAIL_TRAMO = 5,
     CANOPYRAIL_VERTICE = 6,
-    CANOPYRAIL_NODO = 7
+    CANOPYRAIL_NODO = 7,
+    CANOPYRAIL_OB_COMP = 8
 };
 
-/* How many groups of reasons there are, by their tens: 10 to 11, 20 to 25, 30, 40 to 41, 50 to 59; and how many cells a grid has. */
-#define CANOPYRAIL_GROUPS 5
+/* How many groups of reasons there are, by their tens: 10 to 11, 20 to 25, 30, 40 to 41, 50 to 59, 70; and how many cells a grid has. */
+#define CANOPYRAIL_GROUPS 6
 #define CANOPYRAIL_CELLS (CANOPYRAIL_FILES * CANOPYRAIL_GROUPS)
 /* At most so many records a file; a longer file is refused with reason 10. */
 #define CANOPYRAIL_RECORDS 16384
@@ -93,8 +100,9 @@ enum canopyrail_reason_number {
     CANOPYRAIL_IDLE_OBJECT = 57,      /* a linear object named by no tramo */
     CANOPYRAIL_OTHER_KIND = 58,       /* a node's TIPO says another kind of node (isolated, end, intermediate) than it is: NODO, field 2 */
     CANOPYRAIL_NO_LAST_VERTEX = 59,   /* a tramo whose line has no vertex of highest order (never told first) */
+    CANOPYRAIL_IDLE_COMPOSITE = 70,   /* a composite object that no object of OB_PUN, OB_TEX or OB_LIN names: OB_COMP, field 0 */
     /* of the calls on one record */
-    CANOPYRAIL_NO_FILE = 60,          /* the file number is outside 1 to 7: field 0 */
+    CANOPYRAIL_NO_FILE = 60,          /* the file number is outside 1 to 8: field 0 */
     CANOPYRAIL_SHORT_ROOM = 61,       /* the lent room is too short: field 0 */
     CANOPYRAIL_TOO_LARGE = 62,        /* writing: the value is too large for its digits */
     CANOPYRAIL_BAD_TEXT = 63,         /* writing: the text is too long, has a byte outside the A set, or begins or ends in a blank or A0 */
@@ -126,9 +134,10 @@ uint64_t canopyrail_judge(const canopyrail_bytes *files, size_t n);
  * Counts the breaks of a delivery, whose files are lent as to canopyrail_judge. 0: the first CANOPYRAIL_CELLS cells are its grid, and
  * what lies past them is as it was. Else the refusal, 61 where there are fewer cells, and they are as they were.
  *
- * The cell of a file's breaks whose reason has the tens g, 1 to 5, is cells[CANOPYRAIL_GROUPS * (file - 1) + g - 1]. Counted is the lowest
- * ten that has any break, each of its breaks once; all other cells are 0. So they are all 0 exactly if canopyrail_judge accepts the
- * delivery, and the break that it tells is one of those counted.
+ * The cell of a file's breaks in group g is cells[CANOPYRAIL_GROUPS * (file - 1) + g - 1]. The groups 1 to 5 are the tens, twenties and so
+ * on to the fifties, group 6 is the seventies; the sixties are of other calls. Counted is the lowest ten that has any break, each of its
+ * breaks once; all other cells are 0. So they are all 0 exactly if canopyrail_judge accepts the delivery, and the break that it tells is
+ * one of those counted.
  */
 uint64_t canopyrail_grid(const canopyrail_bytes *files, size_t n, uint64_t *cells, size_t cells_len);
 

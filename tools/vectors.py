@@ -8,19 +8,20 @@ line, in the order to be read) and FOLDER/stdout (the expected output).
 
 Made from documents alone: document 01 (requirements and rules), its readings
 (R01 to R16), document 02's requests W-202 (a text neither begins nor ends in
-byte A0) and W-203 (domains of orientation, justification and NODO TIPO), and
-source 000 (MIGRA v1, sections 5.1 to 5.6 and chapter 10).
+byte A0), W-203 (domains of orientation, justification and NODO TIPO) and
+W-204 (file 8, OB_COMP, and the catalogue's C), and source 000 (MIGRA v1,
+sections 5.1 to 5.6 and chapter 10).
 No code of the project was read.
 
 The first character of a data file's name is the MIGRA file number.
 
 Parts:
-  1. the layout, from document 01's table
+  1. the layout, from document 01's table and source 000's section 5.5.2
   2. a reader of one record, from document 01
   3. the source's examples, transcribed (values as printed)
   4. document 01's small delivery S
   5. damage
-  6. file numbers outside 1 to 7, ragged, empty and short files
+  6. file numbers outside 1 to 8, ragged, empty and short files
   7. checks of this script against document 01
 """
 
@@ -34,7 +35,7 @@ import sys
 #   kind  N    digits
 #         A    text
 #         CODE text CODIGO: NA and ND count as missing
-#         TYPE catalogue TIPO: P, X, L or T
+#         TYPE catalogue TIPO: P, X, L, T or C (S stays out until W-208)
 #         NODE NODO TIPO: A, C, E, I or H (5.6.11)
 #         TURN orientation: degrees 000 to 359 and minutes 00 to 59 (5.6.6)
 #         JUST justification: 1 to 9 (5.6.7)
@@ -72,10 +73,15 @@ LAYOUT = {
         ('ID_NODOF', 'N', 10, True), ('SENTIDO', 'WAY', 1, False)],
     6: [('ID_LINEA', 'N', 10, True), ('NO_ORDEN', 'N', 5, True)] + six(True),
     7: [('ID_NODO', 'N', 10, True), ('TIPO', 'NODE', 1, False)] + six(True),
+    8: [('ID_OCOMP', 'N', 10, True), ('CODIGO', 'CODE', 7, True),
+        ('NOMBRE_I', 'A', 60, False)] + six(False),
 }
 
 FILE_NAME = {1: 'CATALOGO', 2: 'OB_PUN', 3: 'OB_TEX', 4: 'OB_LIN',
-             5: 'TRAMO', 6: 'VERTICE', 7: 'NODO'}
+             5: 'TRAMO', 6: 'VERTICE', 7: 'NODO', 8: 'OB_COMP'}
+
+# The field at which a centroid's six begin, in the files that have one.
+CENTROID_AT = {4: 5, 8: 4}
 
 DIGITS = b'0123456789'
 
@@ -150,9 +156,10 @@ def breaks_of(k, record):
     if record[-2:] != b'\x0d\x0a':
         found.add((0, 20))
 
-    # OB_LIN: if any of the six centroid fields is present (not blank; damaged
-    # and out of domain count as present, R05), X, Y and their signs are.
-    centroid = k == 4 and any(not blank(f) for f in fields[4:10])
+    # OB_LIN and OB_COMP: if any of the six centroid fields is present (not
+    # blank; damaged and out of domain count as present, R05), X, Y and their
+    # signs are.  The six are the record's last.
+    centroid = k in CENTROID_AT and any(not blank(f) for f in fields[-6:])
 
     for i, (name, kind, _, demanded) in enumerate(layout):
         no = i + 1
@@ -179,7 +186,7 @@ def breaks_of(k, record):
                 found.add((no, 24))
             continue                       # missing: no 25
 
-        if kind == 'TYPE' and field not in (b'P', b'X', b'L', b'T'):
+        if kind == 'TYPE' and field not in (b'P', b'X', b'L', b'T', b'C'):
             found.add((no, 25))
         if kind == 'WAY' and field not in (b'+', b'-'):
             found.add((no, 25))
@@ -242,7 +249,7 @@ def written(k, values):
 
 
 def read(k, data, n):
-    if not 1 <= k <= 7:
+    if k not in LAYOUT:
         return ('NO', 60, 0)
     length = record_length(k)
     whole = len(data) // length            # a ragged tail is no record
@@ -277,7 +284,7 @@ def line_of(answer):
 def expected(name, data):
     k = int(name[0])
     out = [name.encode('ascii')]
-    last = len(data) // record_length(k) + 1 if 1 <= k <= 7 else 1
+    last = len(data) // record_length(k) + 1 if k in LAYOUT else 1
     for n in range(1, last + 1):
         out.append(b'%05d ' % n + line_of(read(k, data, n)))
     return b''.join(line + b'\n' for line in out)
@@ -339,10 +346,9 @@ def table(k, text):
 # The columns stand in the order of the layout.  Page numbers are the ones of
 # the source's own table of contents.  Lines are those of the text file.
 #
-# Files of the examples outside the seven (OB_COMP and OB_SUP and PERIME of
-# 10.3 to 10.5, and the metadata) are left out: document 01 leaves them for
-# later.  No record of the seven files was unreadable; the readings made are
-# noted at each table.
+# Files of the examples outside the eight (OB_SUP and PERIME of 10.3 to 10.5,
+# and the metadata) are left out: document 01 leaves them for later.  No record
+# of the eight files was unreadable; the readings made are noted at each table.
 # ---------------------------------------------------------------------------
 
 EXAMPLE = {}
@@ -474,7 +480,7 @@ EXAMPLE[2, 7] = (3394, '''
 # All sign columns of this example print nothing while X and Y are printed:
 # they are read as blank, which is 24 at the sign of X.
 
-# lines 3677 to 3686; types S and C stand outside document 01's domain: 25.
+# lines 3677 to 3686; type S stands outside the domain: 25.
 EXAMPLE[3, 1] = (3677, '''
 0190000 | X | TOPONIMO TEMA1       | Anotacion generica
 0352400 | S | LAGO                 | Deposito natural de agua al aire libre
@@ -486,7 +492,7 @@ EXAMPLE[3, 1] = (3677, '''
 0300100 | C | LAGO COMPUESTO       | Lago compuesto de varios lagos simples
 1050100 | S | COMPLEMENTARIO       | Superficie complementaria que completa el plano
 1050101 | T | COMPLEMENTARIO       | Seccion continua de limite del complementario
-''', [None, (25, 2), None, None, None, (25, 2), None, (25, 2), (25, 2), None])
+''', [None, (25, 2), None, None, None, (25, 2), None, None, (25, 2), None])
 
 # lines 3696 and 3697
 EXAMPLE[3, 2] = (3696, '''
@@ -498,6 +504,11 @@ EXAMPLE[3, 2] = (3696, '''
 EXAMPLE[3, 3] = (3702, '''
 0000000001 | 0000000000 | 0190000 | HOLA | 001 | 001 | 00000 | 1 | | 0000000002 | | 0000000006 | |
 ''', (24, 9))
+
+# line 3691; like the others without its signs
+EXAMPLE[3, 8] = (3691, '''
+0000000001 | 0300100 | Lago Mayor | | 000000000 | | 0000000000 | |
+''', (24, 4))
 
 # lines 3728 and 3732 to 3746; linear object 0 is an id like others (R10).
 EXAMPLE[3, 5] = (3728, '''
@@ -752,6 +763,8 @@ WHOLE = {
        ' | 0000005606 | 0000005707 | -',
     6: '0000006101 | 00602 | - | 000006404 | + | 0000006606 | - | 00006808',
     7: '0000007101 | H | + | 000007404 | - | 0000007606 | - | 00007808',
+    8: '0000008101 | 0300100 | Red de desagüe'
+       ' | + | 000008505 | - | 0000008707 | + | 00008909',
 }
 
 
@@ -805,6 +818,7 @@ NOT_BLANK = {
     5: {1, 2, 5, 6, 7},
     6: {1, 2, 3, 4, 5, 6, 7, 8},
     7: {1, 3, 4, 5, 6, 7, 8},
+    8: {1, 2, 4, 5, 6, 7, 8, 9},
 }
 
 
@@ -1011,7 +1025,7 @@ def extremes(d):
             spare[no] = b''
         elif LAYOUT[d.k][no - 1][0] in ('SIGNO_Z', 'Z'):
             spare[no] = b''
-        elif d.k == 4 and no >= 5:
+        elif no >= CENTROID_AT.get(d.k, len(LAYOUT[d.k]) + 1):
             spare[no] = b''
     d.put('all that may be missing', None, spare)
 
@@ -1030,9 +1044,9 @@ def turn_damage(d, no):
 def damage_1():
     d = Damage(1)
     common_damage(d)
-    for t in b'PXL':
+    for t in b'PXLC':
         d.put('TIPO %c' % t, None, {2: bytes([t])})
-    for t in (b'C', b'S', b'p', b'|', b'?', b'\xa1'):
+    for t in (b'S', b'p', b'c', b'|', b'?', b'\xa1'):
         d.put('TIPO %r' % t, (25, 2), {2: t})
     for t in (b'\x9f', b'\x7f', b'\xa0'):
         d.put('TIPO %r' % t, (23, 2), {2: t})
@@ -1083,31 +1097,38 @@ def damage_4():
     sign_damage(d, 5)
     extremes(d)
     orders(d, 6, 3)
-    # The centroid: each subset of its six fields blank, the rest as in the
-    # whole record (so each subset of the three coordinates, each single field
-    # blank, and each single field present, are among them).
-    # If any is present, 5 to 8 are; 9 and 10 go together.
+    centroid_damage(d)
+    return d
+
+
+def centroid_damage(d):
+    """Each subset of the centroid's six fields blank, the rest as in the whole
+    record (so each subset of the three coordinates, each single field blank,
+    and each single field present, are among them).  If any is present, the
+    first four are; the last two go together."""
+    first = CENTROID_AT[d.k]
+    six_nos = range(first, first + 6)
+    sign_x, x, _, y, sign_z, z = six_nos
     for mask in range(64):
-        present = [no for i, no in enumerate(range(5, 11)) if mask >> i & 1]
-        blanks = [no for no in range(5, 11) if no not in present]
+        present = [no for i, no in enumerate(six_nos) if mask >> i & 1]
+        blanks = [no for no in six_nos if no not in present]
         want = None
         if present:
-            wrong = [no for no in (5, 6, 7, 8) if no not in present]
-            if (9 in present) != (10 in present):
-                wrong.append(9 if 10 in present else 10)
+            wrong = [no for no in range(first, first + 4) if no not in present]
+            if (sign_z in present) != (z in present):
+                wrong.append(sign_z if z in present else z)
             if wrong:
                 want = (24, min(wrong))
         d.put('centroid fields %s present' % present, want, {no: b'' for no in blanks})
     # Damaged and out of domain count as present (R05).
-    none = {no: b'' for no in range(5, 11)}
-    d.put('only X, damaged', (24, 5), {**none, 6: b'       11'})
-    d.put('only Y, damaged', (24, 5), {**none, 8: b'0000000x11'})
-    d.put('only Z, damaged', (24, 5), {**none, 10: b'      11'})
-    d.put('only sign of X, *', (25, 5), {**none, 5: b'*'})
-    d.put('only sign of X, 9F', (23, 5), {**none, 5: b'\x9f'})
-    d.put('only sign of Z, *', (24, 5), {**none, 9: b'*'})
-    d.put('only sign of Z, 00', (24, 5), {**none, 9: b'\x00'})
-    return d
+    none = {no: b'' for no in six_nos}
+    d.put('only X, damaged', (24, sign_x), {**none, x: b'       11'})
+    d.put('only Y, damaged', (24, sign_x), {**none, y: b'0000000x11'})
+    d.put('only Z, damaged', (24, sign_x), {**none, z: b'      11'})
+    d.put('only sign of X, *', (25, sign_x), {**none, sign_x: b'*'})
+    d.put('only sign of X, 9F', (23, sign_x), {**none, sign_x: b'\x9f'})
+    d.put('only sign of Z, *', (24, sign_x), {**none, sign_z: b'*'})
+    d.put('only sign of Z, 00', (24, sign_x), {**none, sign_z: b'\x00'})
 
 
 def damage_5():
@@ -1156,8 +1177,21 @@ def damage_7():
     return d
 
 
+def damage_8():
+    d = Damage(8)
+    common_damage(d)
+    text_damage(d, 2, True)
+    text_damage(d, 3, False)
+    sign_damage(d, 4)
+    number_damage(d, 1)
+    extremes(d)
+    orders(d, 5, 2)
+    centroid_damage(d)
+    return d
+
+
 DAMAGE = {1: damage_1, 2: damage_2, 3: damage_3, 4: damage_4,
-          5: damage_5, 6: damage_6, 7: damage_7}
+          5: damage_5, 6: damage_6, 7: damage_7, 8: damage_8}
 
 LIMIT = 8192        # every data file stays under this many bytes
 MOST = 80           # and has no more records than this
@@ -1183,7 +1217,7 @@ def all_files():
 
     # (a) example 10.2, (b) examples 10.1, 10.3, 10.4, 10.5
     for example in (2, 1, 3, 4, 5):
-        for k in range(1, 8):
+        for k in LAYOUT:
             if (example, k) in EXAMPLE:
                 _, rows, _ = EXAMPLE[example, k]
                 files.append(('%d-ej%d' % (k, example), b''.join(table(k, rows))))
@@ -1194,12 +1228,12 @@ def all_files():
     nodes = b''.join(table(7, S[7]))
 
     # (d) damage
-    for k in range(1, 8):
+    for k in LAYOUT:
         for name, records in in_files(k, 'damaged', DAMAGE[k]().records):
             files.append((name, b''.join(records)))
 
-    # (e) file numbers outside 1 to 7
-    files.append(('8-nofile', nodes))
+    # (e) file numbers outside 1 to 8
+    files.append(('9-nofile', nodes))
     files.append(('0-nofile', nodes))
 
     # (f) a ragged tail is no record
@@ -1219,7 +1253,7 @@ def told(answer):
 
 def check():
     # record lengths
-    assert [record_length(k) for k in range(1, 8)] == [133, 149, 144, 128, 77, 54, 50]
+    assert [record_length(k) for k in LAYOUT] == [133, 149, 144, 128, 77, 54, 50, 117]
 
     # node 1's printed record, and how it is read
     assert table(7, S[7])[0] == NODE_1 and len(NODE_1) == 50
@@ -1252,19 +1286,19 @@ def check():
         assert len(wanted) == len(records)
         for record, want in zip(records, wanted):
             assert told(read(k, record, 1)) == want, (example, k, record)
-    # numbers of records that the metadata of the examples give (files 1 to 7)
+    # numbers of records that the metadata of the examples give (files 1 to 8)
     said = {1: {1: 5, 2: 2, 3: 1, 5: 4, 6: 14},                      # 2848 on
             2: {1: 7, 2: 2, 3: 1, 4: 4, 5: 6, 6: 16, 7: 6},          # 3154 on
-            3: {1: 10, 2: 2, 3: 1, 5: 16, 6: 24, 7: 6},              # 3520 on
+            3: {1: 10, 2: 2, 3: 1, 5: 16, 6: 24, 7: 6, 8: 1},        # 3520 on
             4: {1: 7, 2: 2, 3: 1, 4: 1, 5: 6, 6: 16, 7: 6},          # 3899 on
             5: {1: 9, 2: 2, 3: 1, 4: 2, 5: 9, 6: 20, 7: 8}}          # 4253 on
     for example in said:
         mine = {k: len(table(k, EXAMPLE[example, k][1]))
-                for k in range(1, 8) if (example, k) in EXAMPLE}
+                for k in LAYOUT if (example, k) in EXAMPLE}
         assert mine == said[example], (example, mine)
 
     # damage: the want said at each case
-    for k in range(1, 8):
+    for k in LAYOUT:
         d = DAMAGE[k]()
         assert told(read(k, d.records[0], 1)) is None
         assert all(not blank(c) for c in d.base)

@@ -57,7 +57,7 @@ impl Given<'_> {
         }
     }
 
-    /// Which of the seven files a path is, by the name given or by its own.
+    /// Which of the eight files a path is, by the name given or by its own.
     fn file_number(&self, path: &Path) -> Result<usize, Misuse> {
         let own = || path.file_name().unwrap_or(path.as_os_str());
         let name = self.name.as_deref().unwrap_or_else(own);

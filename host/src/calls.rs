@@ -15,13 +15,13 @@ use std::thread;
 use crate::Reason;
 
 /// How many files a delivery has.
-pub const FILES: usize = 7;
+pub const FILES: usize = 8;
 /// The most fields a record has.
 pub const FIELDS: usize = 14;
 /// The bytes of the longest text.
 pub const TEXT: usize = 60;
 /// How many groups of reasons there are, by their tens.
-pub const GROUPS: usize = 5;
+pub const GROUPS: usize = 6;
 /// How many cells a grid has.
 const CELLS: usize = FILES * GROUPS;
 /// A judging takes at most so many bytes of stack: `CANOPYRAIL_STACK` of the header.

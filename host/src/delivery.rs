@@ -1,4 +1,4 @@
-//! A delivery in hand: the seven files of a directory, read into memory.
+//! A delivery in hand: the eight files of a directory, read into memory.
 
 use canopyrail::{names, Grid, Value, Verdict, FILES};
 use std::io::Read;
@@ -9,7 +9,7 @@ use crate::folder::{self, Doubt};
 use crate::layout::{limit, Part};
 use crate::picture;
 
-/// The bytes of the seven files; no bytes of an absent one.
+/// The bytes of the eight files; no bytes of an absent one.
 pub struct Delivery {
     files: [Option<Vec<u8>>; FILES],
     /// Why the folder may be another than was meant.
@@ -17,7 +17,7 @@ pub struct Delivery {
 }
 
 impl Delivery {
-    /// Reads the seven files of a folder.
+    /// Reads the eight files of a folder.
     pub fn open(directory: &Path) -> Result<Delivery, Trouble> {
         folder::check(directory).map_err(|unread| Trouble::Unread(directory.into(), unread))?;
         let mut files: [Option<Vec<u8>>; FILES] = Default::default();

@@ -1,6 +1,7 @@
 //! A verdict in plain words, with the records that matter.
 
 pub mod bytes;
+mod composites;
 mod likeness;
 mod lines;
 mod nodes;
@@ -109,7 +110,7 @@ fn marks(delivery: &Delivery, b: &Break) -> Vec<Part> {
         Reason::SamePlace => vec![whole_place(b.file)],
         Reason::PointElsewhere => lines::point_marks(delivery, b),
         Reason::IdleNode => vec![x_part(b.file), y_part(b.file)],
-        Reason::IdleObject => vec![Part::field(b.file, 1)],
+        Reason::IdleObject | Reason::IdleComposite => vec![Part::field(b.file, 1)],
         _ => bytes::field_marks(b.file, b.reason, b.field),
     }
 }
@@ -130,6 +131,7 @@ fn here(page: &mut Page, delivery: &Delivery, b: &Break) {
         Reason::IdleNode => nodes::idle_node(page, delivery, b),
         Reason::IdleObject => lines::idle_object(page, delivery, b),
         Reason::OtherKind => nodes::other_kind(page, delivery, b),
+        Reason::IdleComposite => composites::idle_composite(page, delivery, b),
         _ => {
             let text =
                 bytes::field_here(b.file, delivery.record(b.file, b.record), b.reason, b.field);

@@ -7,7 +7,7 @@ use crate::record::refused;
 use crate::{calls, Refusal, FILES, GROUPS};
 
 /// The breaks of a delivery, or of many together, counted: a row for each file, and in it a cell for
-/// each group of reasons (10 to 11, 20 to 25, 30, 40 to 41, 50 to 59).
+/// each group of reasons (10 to 11, 20 to 25, 30, 40 to 41, 50 to 59, 70).
 ///
 /// Of one delivery only the lowest group is counted that has any break, since a rule of a higher one
 /// is not read then; every break of that group is counted once. So the grid is all zeros exactly if
@@ -20,14 +20,14 @@ use crate::{calls, Refusal, FILES, GROUPS};
 ///
 /// let accepted = grid([&[]; FILES]);
 /// assert!(accepted.is_zero());
-/// // NODO, the last file, has no whole record.
-/// let broken = grid([&[], &[], &[], &[], &[], &[], b"0000000001|"]);
-/// assert_eq!(broken.cell(7, 1), 1);
+/// // OB_COMP, the last file, has no whole record.
+/// let broken = grid([&[], &[], &[], &[], &[], &[], &[], b"0000000001|"]);
+/// assert_eq!(broken.cell(8, 1), 1);
 ///
 /// let mut both = Grid::default();
 /// both.add(&accepted)?;
 /// both.add(&broken)?;
-/// assert_eq!((both.of_file(7), both.of_group(1), both.total()), (1, 1, 1));
+/// assert_eq!((both.of_file(8), both.of_group(1), both.total()), (1, 1, 1));
 /// # Ok::<(), canopyrail::Refusal>(())
 /// ```
 #[must_use = "a delivery whose grid is not zero may not be used"]
@@ -54,7 +54,8 @@ impl Grid {
         &self.rows
     }
 
-    /// The breaks of a file, from 1, in a group, 1 to 5 by its tens; 0 where there is no such cell.
+    /// The breaks of a file, from 1, in a group, 1 to 6 in the order of their tens; 0 where there is
+    /// no such cell.
     #[must_use]
     pub fn cell(&self, file: usize, group: usize) -> u64 {
         self.row(file)
@@ -105,7 +106,7 @@ impl Grid {
     }
 }
 
-/// The grid program's seven rows, without the last one's line feed.
+/// The grid program's eight rows, without the last one's line feed.
 impl fmt::Display for Grid {
     fn fmt(&self, out: &mut fmt::Formatter<'_>) -> fmt::Result {
         let row = |cells: [u64; GROUPS]| cells.map(|count| format!("{count:010}")).join(" ");
@@ -113,14 +114,14 @@ impl fmt::Display for Grid {
     }
 }
 
-/// The grid program's seven rows, each with its line feed: five counts of ten digits, with single
+/// The grid program's eight rows, each with its line feed: six counts of ten digits, with single
 /// blanks between.
 #[must_use]
 pub fn rows(grid: &Grid) -> String {
     format!("{grid}\n")
 }
 
-/// Counts the breaks of a delivery by the bytes of its seven files, in any state; an absent file is
+/// Counts the breaks of a delivery by the bytes of its eight files, in any state; an absent file is
 /// an empty one.
 ///
 /// As [`judge`](crate::judge) it runs on a thread of its own, and may be called on any.

@@ -10,7 +10,7 @@ usage: canopyrail judge [--strict] DIR
 ";
 
 pub const GENERAL: &str = "\
-canopyrail: checks MIGRA v1 map deliveries (chain-node profile, seven files)
+canopyrail: checks MIGRA v1 map deliveries (chain-node profile, eight files)
 
 usage:
   canopyrail judge [--strict] DIR              judge a delivery and print one line
@@ -20,9 +20,9 @@ usage:
   canopyrail help [COMMAND]                    this page, or a command's own
   canopyrail --version, -V                     the version
 
-DIR has the delivery's files CATALOGO, OB_PUN, OB_TEX, OB_LIN, TRAMO, VERTICE and NODO, in capitals.
-A file that is absent counts as an empty one; where that looks like a mistake, a warning goes to
-standard error.
+DIR has the delivery's files CATALOGO, OB_PUN, OB_TEX, OB_LIN, TRAMO, VERTICE, NODO and OB_COMP, in
+capitals. A file that is absent counts as an empty one; where that looks like a mistake, a warning
+goes to standard error.
 
 exit status:
   0  accepted (grid: all of them; show: the record is lawful)
@@ -48,20 +48,22 @@ usage: canopyrail judge [--strict] DIR
 
 Judges the delivery in DIR and prints one line:
 
-  OK 00002 00000 00000 00001 00001 00002 00002
-     accepted: the records of CATALOGO, OB_PUN, OB_TEX, OB_LIN, TRAMO, VERTICE and NODO
+  OK 00002 00000 00000 00001 00001 00002 00002 00000
+     accepted: the records of CATALOGO, OB_PUN, OB_TEX, OB_LIN, TRAMO, VERTICE, NODO and OB_COMP
 
   NO 53 5 00001 07
      |  | |     +--- field of the record, counted from 1; 00: the record as a whole
      |  | +--------- record, counted from 1; 00000: the file as a whole
-     |  +----------- file: 1 CATALOGO, 2 OB_PUN, 3 OB_TEX, 4 OB_LIN, 5 TRAMO, 6 VERTICE, 7 NODO
+     |  +----------- file: 1 CATALOGO, 2 OB_PUN, 3 OB_TEX, 4 OB_LIN, 5 TRAMO, 6 VERTICE, 7 NODO,
+     |               8 OB_COMP
      +-------------- reason: 10-11 the file, 20-25 a record's bytes, 30 a key used twice,
-                     40-41 something named that is not there, 50-58 lines and nodes
+                     40-41 something named that is not there, 50-58 lines and nodes,
+                     70 a composite object that no object names
 
 The first fault in a fixed order is told; there may be more behind it. `canopyrail explain DIR` says
 it in words, `canopyrail grid DIR` counts those of its kind.
 
-DIR has the seven files under these names, in capitals. An absent file counts as an empty one; one
+DIR has the eight files under these names, in capitals. An absent file counts as an empty one; one
 that is there and can't be read whole, or is a link to nothing, a folder or a pipe, means that the
 delivery could not be judged. A file may have 16,384 records.
 
@@ -107,16 +109,18 @@ example:
 pub const GRID: &str = "\
 usage: canopyrail grid [--strict] [--words] DIR...
 
-Counts the faults of the delivery in DIR, or of those in several folders together, and prints seven
-rows of five counts, each of ten digits. The rows are the files CATALOGO, OB_PUN, OB_TEX, OB_LIN,
-TRAMO, VERTICE and NODO, the columns the kinds of fault by the tens of their reasons:
+Counts the faults of the delivery in DIR, or of those in several folders together, and prints eight
+rows of six counts, each of ten digits. The rows are the files CATALOGO, OB_PUN, OB_TEX, OB_LIN,
+TRAMO, VERTICE, NODO and OB_COMP, the columns the kinds of fault by the tens of their reasons:
 
-  0000000000 0000000000 0000000000 0000000002 0000000000
-  |          |          |          |          +--- 50-59 lines and nodes
-  |          |          |          +-------------- 40-41 references: what is named is not there
-  |          |          +------------------------- 30 keys: one that is used twice
-  |          +------------------------------------ 20-25 fields: a record's bytes
-  +----------------------------------------------- 10-11 shape: the file as a whole
+  0000000000 0000000000 0000000000 0000000002 0000000000 0000000000
+  |          |          |          |          |          +--- 70 composites: one that nothing names
+  |          |          |          |          +-------------- 50-59 lines and nodes
+  |          |          |          +------------------------- 40-41 references: what is named is
+  |          |          |                                     not there
+  |          |          +------------------------------------ 30 keys: one that is used twice
+  |          +----------------------------------------------- 20-25 fields: a record's bytes
+  +---------------------------------------------------------- 10-11 shape: the file as a whole
 
 Of one delivery only the first column that has any fault is counted, since the rules of the others
 are not read then: there may be more in those behind it. Every fault of that column is counted once,
@@ -146,8 +150,8 @@ Shows the values of one record of a file, a field a line: the field's number, MI
 value or the word missing. Numbers are shown without leading zeros, coordinates with their sign,
 texts in quotes with bytes that are not plain ASCII as \\xNN. RECORD counts from 1.
 
-FILE's name is one of CATALOGO, OB_PUN, OB_TEX, OB_LIN, TRAMO, VERTICE, NODO; where it is another,
---as NAME says which of the seven it is. Only this one record is looked at.
+FILE's name is one of CATALOGO, OB_PUN, OB_TEX, OB_LIN, TRAMO, VERTICE, NODO, OB_COMP; where it is
+another, --as NAME says which of the eight it is. Only this one record is looked at.
 
 exit status:
   0  the record is lawful

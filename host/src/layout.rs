@@ -9,6 +9,7 @@ pub const OB_LIN: usize = 4;
 pub const TRAMO: usize = 5;
 pub const VERTICE: usize = 6;
 pub const NODO: usize = 7;
+pub const OB_COMP: usize = 8;
 
 /// A part of some bytes, most often of a record's, from its first place up to the one before its
 /// end.

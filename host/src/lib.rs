@@ -1,8 +1,9 @@
-//! Canopyrail for hosts: a checker and codec for MIGRA v1 map deliveries (chain-node profile, seven
+//! Canopyrail for hosts: a checker and codec for MIGRA v1 map deliveries (chain-node profile, eight
 //! files), as safe functions over the proved library `libcanopyrail.a`.
 //!
-//! Files are numbered 1 CATALOGO, 2 OB_PUN, 3 OB_TEX, 4 OB_LIN, 5 TRAMO, 6 VERTICE, 7 NODO; records
-//! and fields are counted from 1. Record 0 is the file as a whole, field 0 the record as a whole.
+//! Files are numbered 1 CATALOGO, 2 OB_PUN, 3 OB_TEX, 4 OB_LIN, 5 TRAMO, 6 VERTICE, 7 NODO, 8
+//! OB_COMP; records and fields are counted from 1. Record 0 is the file as a whole, field 0 the
+//! record as a whole.
 //! [`Reason`] has every reason by name and number, [`words`] in plain words, [`names`] MIGRA's own
 //! names.
 //!
@@ -11,10 +12,10 @@
 //!
 //! ```
 //! # fn main() -> Result<(), canopyrail::Break> {
-//! let nodo = b"";
-//! let files: [&[u8]; canopyrail::FILES] = [&[], &[], &[], &[], &[], &[], nodo];
+//! let mut files: [&[u8]; canopyrail::FILES] = [&[]; canopyrail::FILES];
+//! files[7 - 1] = b""; // NODO's bytes
 //! let counts = canopyrail::judge(files).into_result()?;
-//! assert_eq!(counts, [0; 7]);
+//! assert_eq!(counts, [0; 8]);
 //! # Ok(())
 //! # }
 //! ```
@@ -44,7 +45,8 @@ pub use verdict::{judge, judge_here, line, try_judge, Break, Verdict};
 
 /// How many files a delivery has.
 pub const FILES: usize = calls::FILES;
-/// How many groups of reasons there are, by their tens: 10 to 11, 20 to 25, 30, 40 to 41, 50 to 59.
+/// How many groups of reasons there are, by their tens: 10 to 11, 20 to 25, 30, 40 to 41, 50 to 59,
+/// 70.
 pub const GROUPS: usize = calls::GROUPS;
 /// At most so many records a file; a longer file is refused with reason 10.
 pub const RECORDS: usize = 16_384;

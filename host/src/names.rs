@@ -1,20 +1,29 @@
-//! The names of MIGRA v1 (section 5.5) for the seven files and their fields, and the form that a
+//! The names of MIGRA v1 (section 5.5) for the eight files and their fields, and the form that a
 //! field has; and names for the groups of reasons.
 //!
-//! Files are numbered 1 to 7, groups 1 to 5 by their tens, and fields from 1, as everywhere in this
-//! library.
+//! Files are numbered 1 to 8, groups 1 to 6 in the order of their tens, and fields from 1, as
+//! everywhere in this library.
 
 use crate::calls;
 
-/// The seven files by name; file n is `FILES[n - 1]`.
+/// The eight files by name; file n is `FILES[n - 1]`.
 pub const FILES: [&str; calls::FILES] = [
-    "CATALOGO", "OB_PUN", "OB_TEX", "OB_LIN", "TRAMO", "VERTICE", "NODO",
+    "CATALOGO", "OB_PUN", "OB_TEX", "OB_LIN", "TRAMO", "VERTICE", "NODO", "OB_COMP",
 ];
 
-/// The groups of reasons by name; the reasons of group n are n times ten and up, and its name is
-/// `GROUPS[n - 1]`.
-pub const GROUPS: [&str; calls::GROUPS] =
-    ["shape", "fields", "keys", "references", "lines and nodes"];
+/// The groups of reasons by name; group n is `GROUPS[n - 1]`.
+pub const GROUPS: [&str; calls::GROUPS] = [
+    "shape",
+    "fields",
+    "keys",
+    "references",
+    "lines and nodes",
+    "composites",
+];
+
+/// The tens of each group's reasons. The sixties are of calls on one record and on grids, and have
+/// no group.
+pub const TENS: [u8; calls::GROUPS] = [1, 2, 3, 4, 5, 7];
 
 /// What a field holds, under the header's number.
 #[derive(Clone, Copy, Debug, PartialEq, Eq)]
@@ -44,7 +53,7 @@ struct Table {
     place: &'static [Field],
 }
 
-const TABLES: [Table; 7] = [
+const TABLES: [Table; calls::FILES] = [
     Table {
         own: CATALOGO,
         place: &[],
@@ -72,6 +81,10 @@ const TABLES: [Table; 7] = [
     Table {
         own: NODO,
         place: POSITION,
+    },
+    Table {
+        own: OB_COMP,
+        place: CENTROID,
     },
 ];
 
@@ -129,6 +142,12 @@ const VERTICE: &[Field] = &[
 const NODO: &[Field] = &[
     called("ID_NODO", "the node's id"),
     called("TIPO", "the node's type"),
+];
+
+const OB_COMP: &[Field] = &[
+    called("ID_OCOMP", "the composite object's id"),
+    called("CODIGO", "the code"),
+    called("NOMBRE_I", "the name"),
 ];
 
 const POSITION: &[Field] = &[

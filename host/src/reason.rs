@@ -68,11 +68,13 @@ pub enum Reason {
     NoSuchRecord = 66,
     /// A cell of two grids' sum is over 9,999,999,999.
     SumTooLarge = 67,
+    /// A composite object is named by no object.
+    IdleComposite = 70,
 }
 
 impl Reason {
     /// Every reason, by number.
-    pub const ALL: [Reason; 29] = [
+    pub const ALL: [Reason; 30] = [
         Reason::LongFile,
         Reason::RaggedFile,
         Reason::BadEnd,
@@ -102,9 +104,10 @@ impl Reason {
         Reason::Unfit,
         Reason::NoSuchRecord,
         Reason::SumTooLarge,
+        Reason::IdleComposite,
     ];
 
-    /// The reason's number, 10 to 67.
+    /// The reason's number, 10 to 70.
     #[must_use]
     pub const fn number(self) -> u8 {
         self as u8

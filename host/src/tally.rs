@@ -51,38 +51,47 @@ impl Tally {
     }
 }
 
-/// A total of all cells has so many bytes at most, a cell two less.
-const WIDEST: usize = "349,999,999,965".len();
+/// A row's name, what stands in the column of each group, and what of all groups.
+type Row = Vec<String>;
 
-/// The rows and columns under their names, and their totals.
+/// The rows and columns under their names, and their totals. A column is as wide as what it holds.
 fn table(grid: &Grid) -> String {
-    let mut table = row("", |group| names::GROUPS[group - 1].to_string(), "all");
-    table.push_str(&row("", reasons, ""));
+    let mut rows = vec![
+        row("", |group| names::GROUPS[group - 1].to_string(), "all"),
+        row("", reasons, ""),
+    ];
     for file in 1..=FILES {
         let count = |group| number(grid.cell(file, group));
-        table.push_str(&row(names::file(file), count, &number(grid.of_file(file))));
+        rows.push(row(names::file(file), count, &number(grid.of_file(file))));
     }
     let count = |group| number(grid.of_group(group));
-    table.push_str(&row("all", count, &number(grid.total())));
-    table
+    rows.push(row("all", count, &number(grid.total())));
+    let width = |column: usize| rows.iter().map(|row| row[column].len()).max().unwrap_or(0);
+    let widths: Vec<usize> = (0..GROUPS + 2).map(width).collect();
+    rows.iter().map(|row| line(row, &widths)).collect()
 }
 
-/// A name, something for each group in its column, and something for all groups.
-fn row(name: &str, of_group: impl Fn(usize) -> String, of_all: &str) -> String {
-    let mut row = format!("{name:8}");
-    for group in 1..=GROUPS {
-        let width = names::GROUPS[group - 1].len().max(WIDEST - 2);
-        row.push_str(&format!(" {:>width$}", of_group(group)));
+fn row(name: &str, of_group: impl Fn(usize) -> String, of_all: &str) -> Row {
+    let mut row = vec![name.to_string()];
+    row.extend((1..=GROUPS).map(of_group));
+    row.push(of_all.to_string());
+    row
+}
+
+/// The name from the left edge, all else to the right of its column.
+fn line(row: &Row, widths: &[usize]) -> String {
+    let mut line = format!("{:width$}", row[0], width = widths[0]);
+    for (text, width) in row.iter().zip(widths).skip(1) {
+        line.push_str(&format!("  {text:>width$}"));
     }
-    row.push_str(&format!(" {of_all:>WIDEST$}"));
-    format!("{}\n", row.trim_end())
+    format!("{}\n", line.trim_end())
 }
 
 /// The reasons of a group, from the first to the last.
 fn reasons(group: usize) -> String {
     let numbers = Reason::ALL.iter().map(|reason| reason.number());
     let numbers: Vec<u8> = numbers
-        .filter(|number| usize::from(number / 10) == group)
+        .filter(|number| number / 10 == names::TENS[group - 1])
         .collect();
     match numbers.as_slice() {
         [first, .., last] => format!("{first}-{last}"),
@@ -129,10 +138,11 @@ mod tests {
         let most = Grid::new([[9_999_999_999; GROUPS]; FILES]).unwrap();
         tally.add(Path::new("all"), &most).unwrap();
         let page = tally.page();
-        assert!(page.contains(" 349,999,999,965\n"), "{page}");
+        assert!(page.contains("  479,999,999,952\n"), "{page}");
         let rows: Vec<&str> = page.lines().take(3).collect();
-        assert!(rows[2].starts_with("CATALOGO 9,999,999,999 9,999,999,999 "));
+        assert!(rows[2].starts_with("CATALOGO   9,999,999,999   9,999,999,999 "));
         assert_eq!(rows[0].len(), rows[2].len());
-        assert!(page.lines().all(|line| line.len() <= 100), "{page}");
+        // Counts that a terminal's width is not meant for; those of a test's page fit it.
+        assert!(page.lines().all(|line| line.len() <= 125), "{page}");
     }
 }

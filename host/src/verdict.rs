@@ -9,9 +9,9 @@ use crate::{calls, count, names, Reason, FILES};
 /// The first break of a delivery: a reason and its place.
 #[derive(Clone, Copy, Debug, PartialEq, Eq, Hash)]
 pub struct Break {
-    /// The reason, of number 10 to 59.
+    /// The reason, of number 10 to 59, or 70.
     pub reason: Reason,
-    /// The file, 1 to 7.
+    /// The file, 1 to 8.
     pub file: usize,
     /// The record, from 1; 0 is the file as a whole.
     pub record: usize,
@@ -81,14 +81,14 @@ impl fmt::Display for Verdict {
     }
 }
 
-/// The verdict program's line, with the line feed: `OK` and seven counts, or `NO`, reason, file,
+/// The verdict program's line, with the line feed: `OK` and eight counts, or `NO`, reason, file,
 /// record and field.
 #[must_use]
 pub fn line(verdict: &Verdict) -> String {
     format!("{verdict}\n")
 }
 
-/// Judges a delivery by the bytes of its seven files, in any state; an absent file is an empty one.
+/// Judges a delivery by the bytes of its eight files, in any state; an absent file is an empty one.
 ///
 /// The judging runs on a thread of its own, which has the stack that it takes: so it may be called
 /// on any thread, however little stack is left there.

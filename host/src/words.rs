@@ -84,22 +84,22 @@ pub const fn of(reason: Reason) -> Words {
             rule: "Codes, own ids, the catalogue's TIPO, a vertex's line and order, a text's \
                    ALTURA and JUSTIFI, a tramo's linear object and nodes, and X and Y with their \
                    signs must be there. A sign and its number are both there or both blank. In \
-                   OB_LIN a centroid has X and Y with their signs, or nothing.",
-            look: "The field and its partner. In OB_LIN a centroid has X and Y with their signs, \
-                   or nothing.",
+                   OB_LIN and OB_COMP a centroid has X and Y with their signs, or nothing.",
+            look: "The field and its partner. In OB_LIN and OB_COMP a centroid has X and Y with \
+                   their signs, or nothing.",
             ask:
                 "To fill the field, or, where it may be missing, to blank its partner too. A code \
                   NA or ND is no code; an unknown code has an entry of its own in the catalogue.",
         },
         Reason::Outside => Words {
             wrong: "The field holds something that it may not.",
-            rule: "The catalogue's TIPO is P, X, L or T. A sign is + or -, and - never stands \
+            rule: "The catalogue's TIPO is P, X, L, T or C. A sign is + or -, and - never stands \
                    before zero. A tramo's SENTIDO is +, - or blank. A node's TIPO is A, C, E, I, H \
                    or blank, in capitals. An orientation has degrees from 000 to 359 and minutes \
                    from 00 to 59. A text's justification is 1 to 9.",
-            look: "The field: a type that is not P, X, L or T (in NODO not A, C, E, I or H), a sign \
-                   that is not + or -, - before zero, an orientation past 35959 or with more than \
-                   59 minutes, a justification of 0.",
+            look: "The field: a type that is not P, X, L, T or C (in NODO not A, C, E, I or H), a \
+                   sign that is not + or -, - before zero, an orientation past 35959 or with more \
+                   than 59 minutes, a justification of 0.",
             ask: "To use MIGRA's letters and signs, to write zero with +, and to write angles as \
                   degrees and minutes, not with decimals.",
         },
@@ -116,22 +116,23 @@ pub const fn of(reason: Reason) -> Words {
         Reason::NoRecord => Words {
             wrong: "The field names something that is not in the delivery.",
             rule: "What a field names has a record in its file: a code in CATALOGO, a node in \
-                   NODO, a linear object in OB_LIN, a line in VERTICE; and every vertex's line is \
-                   used by a tramo. A tramo with a blank ID_LINEA uses the line that has the \
-                   tramo's own id. Composite objects and perimeters have no file here, so their \
-                   ids are blank.",
+                   NODO, a linear object in OB_LIN, a composite object in OB_COMP, a line in \
+                   VERTICE; and every vertex's line is used by a tramo. A tramo with a blank \
+                   ID_LINEA uses the line that has the tramo's own id. Perimeters have no file \
+                   here, so their ids are blank.",
             look:
                 "The id or code in the field, and the file it should be in: is the file there? A \
-                   blank line id in TRAMO means the tramo's own id. Composite and perimeter ids \
-                   must be blank.",
+                   blank line id in TRAMO means the tramo's own id. A perimeter id must be blank, \
+                   and so must the composite id of an object that belongs to none: 0 is an id.",
             ask: "To send the missing record, or to mend what the field names.",
         },
         Reason::OtherType => Words {
             wrong: "The code is in the catalogue, but for another kind of object.",
             rule: "A code's TIPO in CATALOGO is that of the file it is used in: P (point) in \
-                   OB_PUN, X (text) in OB_TEX, L (line) in OB_LIN, T (tramo) in TRAMO.",
+                   OB_PUN, X (text) in OB_TEX, L (line) in OB_LIN, T (tramo) in TRAMO, C \
+                   (composite) in OB_COMP.",
             look: "The code's letter in CATALOGO: P for OB_PUN, X for OB_TEX, L for OB_LIN, T for \
-                   TRAMO.",
+                   TRAMO, C for OB_COMP.",
             ask: "To use a code of the right kind, or to mend the code's TIPO in the catalogue.",
         },
         Reason::OrderGap => Words {
@@ -217,9 +218,9 @@ pub const fn of(reason: Reason) -> Words {
         },
         Reason::NoFile => Words {
             wrong: "There is no file of this number.",
-            rule: "Files are numbered 1 to 7.",
+            rule: "Files are numbered 1 to 8.",
             look: "The number passed.",
-            ask: "Pass the number of one of the seven files.",
+            ask: "Pass the number of one of the eight files.",
         },
         Reason::ShortRoom => Words {
             wrong: "The room lent is too short.",
@@ -247,13 +248,13 @@ pub const fn of(reason: Reason) -> Words {
             wrong: "A value is missing that must be there.",
             rule:
                 "What may not be missing in a record may not be missing in writing it. NA and ND \
-                   are no codes. An OB_LIN centroid has X and Y, or nothing.",
-            look: "The field, and in OB_LIN the centroid's other fields.",
+                   are no codes. A centroid of OB_LIN or OB_COMP has X and Y, or nothing.",
+            look: "The field, and in OB_LIN and OB_COMP the centroid's other fields.",
             ask: "Give the value.",
         },
         Reason::Unfit => Words {
             wrong: "The value is outside its domain.",
-            rule: "The catalogue's TIPO is P, X, L or T; a tramo's SENTIDO is + or - or missing; a \
+            rule: "The catalogue's TIPO is P, X, L, T or C; a tramo's SENTIDO is + or - or missing; a \
                    node's TIPO is A, C, E, I or H or missing; an orientation has degrees from 000 \
                    to 359 and minutes from 00 to 59; a text's justification is 1 to 9.",
             look: "The field's text or number.",
@@ -270,6 +271,14 @@ pub const fn of(reason: Reason) -> Words {
             rule: "A cell of a grid has at most ten digits, also where grids are added up.",
             look: "The cells of both grids, neither of which was changed.",
             ask: "Keep the two sums apart.",
+        },
+        Reason::IdleComposite => Words {
+            wrong: "No object names the composite object.",
+            rule: "Every composite object is named by at least one object of OB_PUN, OB_TEX or \
+                   OB_LIN, in the object's field 2.",
+            look: "The composite's id, and field 2 of OB_PUN, OB_TEX and OB_LIN.",
+            ask: "To name the composite in the objects that belong to it, to send those that are \
+                  not there, or to leave the composite out.",
         },
     }
 }

@@ -5,10 +5,10 @@
 
 mod throughout;
 
-use canopyrail::{Break, Grid, Verdict};
+use canopyrail::{names, Break, Grid, Verdict, FILES, GROUPS};
 use deliveries::{
-    damage, damaged, full, lawful, write, Aim, Files, Outcome, Random, Size, AIMS, MOST_RECORDS,
-    RECORD,
+    composed, damage, damaged, full, lawful, write, Aim, Files, Model, Outcome, Random, Size, AIMS,
+    MOST_RECORDS, RECORD,
 };
 
 /// How many damaged deliveries are compared.
@@ -19,10 +19,8 @@ fn how_many() -> u64 {
         .unwrap_or(6_000)
 }
 
-fn lent(files: &Files) -> [&[u8]; 7] {
-    [
-        &files[0], &files[1], &files[2], &files[3], &files[4], &files[5], &files[6],
-    ]
+fn lent(files: &Files) -> [&[u8]; FILES] {
+    std::array::from_fn(|file| files[file].as_slice())
 }
 
 /// The reason that both tell, 0 where both accept; panics where they differ in anything: the line,
@@ -66,7 +64,8 @@ fn compare_grids(files: &Files, verdict: &Verdict, what: &str) {
     match verdict {
         Verdict::Accepted(_) => assert!(ours.is_zero(), "{what}:\n{ours}"),
         Verdict::Broken(b) => {
-            let group = usize::from(b.reason.number() / 10);
+            let is_its_ten = |ten: &u8| *ten == b.reason.number() / 10;
+            let group = 1 + names::TENS.iter().position(is_its_ten).unwrap();
             assert!(ours.cell(b.file, group) > 0, "{what}: {b}\n{ours}");
             assert_eq!(ours.of_group(group), ours.total(), "{what}: {b}\n{ours}");
         }
@@ -118,7 +117,7 @@ fn damaged_deliveries_get_the_same_line_and_every_reason_comes_up() {
     }
     // 59 can't come first: the reference to a line without a vertex is 40
     for reason in [
-        0, 10, 11, 20, 21, 22, 23, 24, 25, 30, 40, 41, 50, 51, 52, 53, 54, 55, 56, 57, 58,
+        0, 10, 11, 20, 21, 22, 23, 24, 25, 30, 40, 41, 50, 51, 52, 53, 54, 55, 56, 57, 58, 70,
     ] {
         assert!(told[reason] > 0, "reason {reason} never came up");
     }
@@ -167,7 +166,7 @@ fn several_faults_at_once() {
                 let grid = canopyrail::grid(lent(&files));
                 many += u32::from(grid.total() > 1);
                 files_at_once +=
-                    u32::from((1..=7).filter(|file| grid.of_file(*file) > 0).count() > 1);
+                    u32::from((1..=FILES).filter(|file| grid.of_file(*file) > 0).count() > 1);
             }
         }
     }
@@ -175,12 +174,21 @@ fn several_faults_at_once() {
     assert!(many > 300 && files_at_once > 100);
 }
 
+/// Every rule broken in every record, each made of one of the two lawful deliveries.
+fn all_broken<'a>(
+    plain: &'a Model,
+    composed: &'a Model,
+) -> impl Iterator<Item = throughout::Broken> + 'a {
+    throughout::all(plain).chain(throughout::all_composed(composed))
+}
+
 /// Every rule broken in every record, in files that are judged with short arrays and in some that are not.
 #[test]
 fn rules_broken_throughout() {
     for n in [40, 600] {
-        let model = lawful(&mut Random::new(n), Size::Exact(n as usize));
-        for (name, _, files) in throughout::all(&model) {
+        let [plain, composed] = [Size::Exact(n as usize), Size::Composed(n as usize)]
+            .map(|size| lawful(&mut Random::new(n), size));
+        for (name, _, files) in all_broken(&plain, &composed) {
             compare(&files, &format!("{name}, {n} records a file"));
         }
     }
@@ -188,8 +196,9 @@ fn rules_broken_throughout() {
 
 #[test]
 fn rules_broken_throughout_at_full_size() {
-    let model = lawful(&mut Random::new(5), Size::Exact(MOST_RECORDS));
-    for (name, due, files) in throughout::all(&model) {
+    let [plain, composed] = [Size::Exact(MOST_RECORDS), Size::Composed(MOST_RECORDS)]
+        .map(|size| lawful(&mut Random::new(5), size));
+    for (name, due, files) in all_broken(&plain, &composed) {
         compare(&files, name);
         let told = canopyrail::judge(lent(&files));
         assert_eq!(told.to_string(), due, "{name}");
@@ -227,10 +236,12 @@ fn full_size_deliveries() {
     let mut random = Random::new(16_384);
     let files = full(&mut random, 16_384);
     assert_eq!(compare(&files, "full size"), 0);
+    let files = composed(&mut random, 16_384);
+    assert_eq!(compare(&files, "full size with composites"), 0);
     let mut told = Vec::new();
     for aim in AIMS.iter().filter(|aim| !aim.is_big()) {
         let mut random = Random::new(7);
-        let mut model = lawful(&mut random, Size::Exact(2_048));
+        let mut model = lawful(&mut random, Size::Composed(2_048));
         let mut files = write(&model);
         damage(&mut random, &mut model, &mut files, *aim);
         told.push(compare(&files, &format!("2,048 records a file, {aim}")));
@@ -258,7 +269,7 @@ fn truncated_files() {
     for seed in 0..7 {
         let mut random = Random::new(seed);
         let files = write(&lawful(&mut random, Size::UpTo(8)));
-        for file in 0..7 {
+        for file in 0..FILES {
             for length in 0..files[file].len() {
                 let mut cut = files.clone();
                 cut[file].truncate(length);
@@ -293,13 +304,13 @@ fn cell(random: &mut Random) -> u64 {
 }
 
 /// Rows with cells that any grid may have, but for some few in as many of them as are asked for.
-fn rows(random: &mut Random, odd: usize) -> [[u64; 5]; 7] {
-    let mut rows = [[0; 5]; 7];
+fn rows(random: &mut Random, odd: usize) -> [[u64; GROUPS]; FILES] {
+    let mut rows = [[0; GROUPS]; FILES];
     for count in rows.iter_mut().flatten() {
         *count = random.below(5_000_000_000);
     }
     for _ in 0..odd {
-        rows[random.index(7)][random.index(5)] = cell(random);
+        rows[random.index(FILES)][random.index(GROUPS)] = cell(random);
     }
     rows
 }
@@ -311,7 +322,7 @@ fn sums() {
     for seed in 0..how_many() {
         let mut random = Random::new(seed);
         let (first, second) = (rows(&mut random, 1), rows(&mut random, 1));
-        let mut theirs = [[0; 5]; 7];
+        let mut theirs = [[0; GROUPS]; FILES];
         let (made, other) = (Grid::new(first), Grid::new(second));
         assert_eq!(
             made.is_ok(),

@@ -1,6 +1,6 @@
 //! include/canopyrail.h, the archive and this crate say the same: the version and every number that the header defines.
 
-use canopyrail::names::{form, Form, FILES, GROUPS};
+use canopyrail::names::{form, Form, FILES, GROUPS, TENS};
 use canopyrail::Reason;
 
 const HEADER: &str = include_str!("../../include/canopyrail.h");
@@ -59,6 +59,7 @@ fn the_same_numbers() {
     // and where a grid of one cell fewer is (examples/calls.c)
     assert_eq!(number("CANOPYRAIL_GROUPS"), canopyrail::GROUPS);
     assert_eq!(GROUPS.len(), canopyrail::GROUPS);
+    assert_eq!(TENS.len(), canopyrail::GROUPS);
     let cells = "#define CANOPYRAIL_CELLS (CANOPYRAIL_FILES * CANOPYRAIL_GROUPS)\n";
     assert!(HEADER.contains(cells));
 }

@@ -3,7 +3,7 @@
 
 mod places;
 
-use canopyrail::Verdict;
+use canopyrail::{Verdict, FILES};
 use places::{delivery, falling_together, points, WHOLE};
 
 /// Places of the longer table of hints repeat with this period: the product of the two primes that a key is taken by (crates/index,
@@ -13,10 +13,8 @@ const PERIOD: u64 = 32_749 * 32_719;
 /// The prime of the shorter table, which serves up to 512 records a file.
 const FEW: u64 = 1_021;
 
-fn lines(files: &[Vec<u8>; 7]) -> (Verdict, String, String) {
-    let lent: [&[u8]; 7] = [
-        &files[0], &files[1], &files[2], &files[3], &files[4], &files[5], &files[6],
-    ];
+fn lines(files: &[Vec<u8>; FILES]) -> (Verdict, String, String) {
+    let lent: [&[u8]; FILES] = std::array::from_fn(|file| files[file].as_slice());
     let ours = canopyrail::judge(lent);
     assert_eq!(*canopyrail::grid(lent).rows(), independent::grid(lent));
     (
@@ -49,7 +47,7 @@ fn ids_on_the_same_hints_of_a_short_table() {
             .collect();
         let (verdict, ours, theirs) = lines(&points(&ids));
         assert_eq!(ours, theirs);
-        assert_eq!(verdict, Verdict::Accepted([1, ids.len(), 0, 0, 0, 0, 0]));
+        assert_eq!(verdict, Verdict::Accepted([1, ids.len(), 0, 0, 0, 0, 0, 0]));
         let mut twins = ids;
         let last = twins.len() - 1;
         twins[last] = twins[last / 2];
@@ -63,7 +61,10 @@ fn held(period: u64, many: usize) {
     let places = falling_together(many, period);
     let (verdict, ours, theirs) = lines(&delivery(&places));
     assert_eq!(ours, theirs);
-    assert_eq!(verdict, Verdict::Accepted([1, 2 * many, 0, 0, 0, 0, many]));
+    assert_eq!(
+        verdict,
+        Verdict::Accepted([1, 2 * many, 0, 0, 0, 0, many, 0])
+    );
 
     // the last node where an earlier one is: told with the earlier one's number
     let mut twins = places;

@@ -83,6 +83,8 @@ fn odd_text(random: &mut Random) -> Vec<u8> {
             b"X",
             b"L",
             b"T",
+            b"C",
+            b"S",
             b"A",
             b"H",
             b"e",
@@ -95,7 +97,7 @@ fn odd_text(random: &mut Random) -> Vec<u8> {
             b"NA\xA0",
             b"\xA0x",
             b"x\xA0x",
-        ][random.below(18) as usize]
+        ][random.below(20) as usize]
             .to_vec();
     }
     text
@@ -211,7 +213,7 @@ fn records_are_read_and_written_alike() {
 
 #[test]
 fn no_such_file() {
-    for file in [0, 8, 9, 255, 256, usize::MAX] {
+    for file in [0, canopyrail::FILES + 1, 255, 256, usize::MAX] {
         assert!(read(file, b"anything", 1).is_none());
         assert!(write(file, &[], ROOM).is_none());
         assert_eq!(canopyrail::count(file, b"anything"), 0);
@@ -222,7 +224,7 @@ fn no_such_file() {
 
 #[test]
 fn the_tables_agree() {
-    for file in 1..=7 {
+    for file in 1..=canopyrail::FILES {
         assert_eq!(canopyrail::length(file), independent::LENGTHS[file - 1]);
         assert_eq!(canopyrail::fields(file), independent::fields(file));
         let mut offset = 0;

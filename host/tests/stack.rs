@@ -1,7 +1,7 @@
 //! Every safe function on threads of little stack: none may ask for more than its caller has.
 
-use canopyrail::{Reason, Value, Verdict};
-use deliveries::{damaged, full, Files, Random};
+use canopyrail::{Reason, Value, Verdict, FILES};
+use deliveries::{composed, damaged, Files, Random};
 use std::thread;
 
 const LITTLE: usize = 64 * 1024;
@@ -14,16 +14,15 @@ fn on_little_stack<T: Send>(work: impl FnOnce() -> T + Send) -> T {
     })
 }
 
-fn lent(files: &Files) -> [&[u8]; 7] {
-    let [a, b, c, d, e, f, g] = files;
-    [a, b, c, d, e, f, g]
+fn lent(files: &Files) -> [&[u8]; FILES] {
+    std::array::from_fn(|file| files[file].as_slice())
 }
 
 #[test]
 fn a_judging_on_little_stack() {
-    let files = full(&mut Random::new(1), 16_384);
+    let files = composed(&mut Random::new(1), 16_384);
     let verdict = on_little_stack(|| canopyrail::judge(lent(&files)));
-    assert_eq!(verdict, Verdict::Accepted([16_384; 7]));
+    assert_eq!(verdict, Verdict::Accepted([16_384; FILES]));
     for seed in 0..200 {
         let (files, _) = damaged(&mut Random::new(seed));
         let there = independent::line(&independent::judge(lent(&files)));
@@ -34,7 +33,7 @@ fn a_judging_on_little_stack() {
 
 #[test]
 fn a_counting_on_little_stack() {
-    let files = full(&mut Random::new(1), 16_384);
+    let files = composed(&mut Random::new(1), 16_384);
     assert!(on_little_stack(|| canopyrail::grid(lent(&files))).is_zero());
     for seed in 0..200 {
         let (files, _) = damaged(&mut Random::new(seed));
@@ -51,12 +50,12 @@ fn a_counting_on_little_stack() {
 
 #[test]
 fn many_judgings_at_once_on_little_stack() {
-    let files = full(&mut Random::new(2), 256);
+    let files = composed(&mut Random::new(2), 256);
     thread::scope(|scope| {
         for _ in 0..16 {
             scope.spawn(|| {
                 let verdict = on_little_stack(|| canopyrail::judge(lent(&files)));
-                assert_eq!(verdict, Verdict::Accepted([256; 7]));
+                assert_eq!(verdict, Verdict::Accepted([256; FILES]));
             });
         }
     });
@@ -64,7 +63,7 @@ fn many_judgings_at_once_on_little_stack() {
 
 #[test]
 fn records_on_little_stack() {
-    let files = full(&mut Random::new(3), 8);
+    let files = composed(&mut Random::new(3), 8);
     for (place, bytes) in files.iter().enumerate() {
         let file = place + 1;
         on_little_stack(|| {

@@ -1,5 +1,5 @@
-// Judges every delivery of its standard input and prints each verdict's line. A delivery is a line with seven decimal lengths, each
-// before a blank or the line feed, and then the bytes of the seven files.
+// Judges every delivery of its standard input and prints each verdict's line. A delivery is a line with eight decimal lengths, each
+// before a blank or the line feed, and then the bytes of the eight files.
 use judge::judge::judge;
 use judge::line::line_of;
 use libc::STDIN_FILENO;
@@ -9,6 +9,7 @@ use record::kind::FILES;
 ghost use mathlib.Core.Path.{_≡_};
 ghost use lib.ListN.{length};
 ghost use Prim.Native.Nat.{_+_, _*_, _^_, _<_, _≤_};
+ghost use Rattle.record.specs.Table.{fileCount};
 
 // A number that was read, and the place after the byte that ends it.
 struct Length {
@@ -55,7 +56,7 @@ fn say_verdict<'a>(files: [&'a [u8]; FILES]) {
 fn after_lengths(s: &[u8], at: usize) -> usize
     requires { ⌜ at < 2 ^ 31 ⌝ }
     ensures later { λ r. ⌜ at < r ⌝ }
-    ensures near { λ r. ⌜ r ≤ at + 8 * 7 ⌝ }
+    ensures near { λ r. ⌜ r ≤ at + 8 * fileCount ⌝ }
 {
     let mut next = at;
     let mut n = 0;

@@ -1,4 +1,4 @@
-// Makes the writing call's cases of document 01, "Single-record calls add", and three of the reading call's, and prints a line for
+// Makes the writing call's cases of document 01, "Single-record calls add", and some of the reading call's, and prints a line for
 // each: the case, the answer, and what became of the room, which is filled with byte AA before the call.
 use codec::read::read;
 use codec::values::Answer;
@@ -72,6 +72,7 @@ fn text_bytes(file: usize) -> usize {
         5 => 75,
         6 => 52,
         7 => 48,
+        8 => 115,
         _ => 0,
     }
 }
@@ -187,10 +188,10 @@ fn nodes() {
 fn files() {
     let v = node(100, 200);
     case(b"file 0", 0, v);
-    case(b"file 8", 8, v);
+    case(b"file 9", 9, v);
     show(b"file 7", 7, v);
-    say(b"file 8 room of 0");
-    tell(8, v, 0, false);
+    say(b"file 9 room of 0");
+    tell(9, v, 0, false);
     room(b"room of 49", v, 49);
     room(b"room of 49 id missing", no(v, 1), 49);
     room(b"room of 50", v, 50);
@@ -267,6 +268,8 @@ fn catalogue() {
     show(b"catalogue TIPO T", 1, catalogued(b"T"));
     case(b"catalogue TIPO A0", 1, catalogued(b"\xA0"));
     case(b"catalogue TIPO A1", 1, catalogued(b"\xA1"));
+    show(b"catalogue TIPO C", 1, catalogued(b"C"));
+    case(b"catalogue TIPO S", 1, catalogued(b"S"));
 }
 
 fn tramo(sense: &[u8]) -> Values {
@@ -313,19 +316,148 @@ fn points() {
     case(b"point orientation 100000", 2, number(v, 6, 100000));
 }
 
-fn say_reading(label: &[u8], n: usize) {
-    say(label);
-    let reading = read(
-        7,
-        b"0000000001| |+|000000100|+|0000000200| |        \r\n",
-        n,
+fn composite(code: &[u8], name: &[u8]) -> Values {
+    text(text(number(none(), 1, 1), 2, code), 3, name)
+}
+
+fn composites() {
+    let v = composite(b"0500000", b"a");
+    let x = coordinate(v, 5, 100);
+    show(b"composite", 8, v);
+    case(b"composite id missing", 8, no(v, 1));
+    case(b"composite id 10000000000", 8, number(v, 1, 10000000000));
+    case(b"composite code missing", 8, composite(b"", b"a"));
+    case(b"composite code NA", 8, composite(b"NA", b"a"));
+    case(b"composite code of 8", 8, composite(b"05000000", b"a"));
+    show(b"composite name missing", 8, composite(b"0500000", b""));
+    case(
+        b"composite name blank first",
+        8,
+        composite(b"0500000", b" a"),
     );
+    case(
+        b"composite name A0 last",
+        8,
+        composite(b"0500000", b"a\xA0"),
+    );
+    case(b"composite only X", 8, x);
+    case(b"composite only Y", 8, coordinate(v, 7, 200));
+    case(b"composite only Z", 8, coordinate(v, 9, 5));
+    case(b"composite X and Z", 8, coordinate(x, 9, 5));
+    show(b"composite X and Y", 8, coordinate(x, 7, -200));
+    show(
+        b"composite X, Y and Z",
+        8,
+        coordinate(coordinate(x, 7, 200), 9, 0),
+    );
+    case(b"composite wide Y no X", 8, coordinate(v, 7, 10000000000));
+    case(b"composite wide Y", 8, coordinate(x, 7, 10000000000));
+    say(b"composite room of 116");
+    tell(8, v, 116, false);
+    say(b"composite room of 117");
+    tell(8, v, 117, false);
+}
+
+fn say_reading(label: &[u8], file: usize, bytes: &[u8], n: usize) {
+    say(label);
+    let reading = read(file, bytes, n);
     let answer = reading.answer;
     match answer {
         Answer::Refused(reason, field) => say_refusal(reason, field),
         Answer::Done => say(b" OK"),
     }
     say(b"\n");
+}
+
+// A node's file of one record, read.
+fn say_node_reading(label: &[u8], n: usize) {
+    say_reading(
+        label,
+        7,
+        b"0000000001| |+|000000100|+|0000000200| |        \r\n",
+        n,
+    );
+}
+
+fn composites_read() {
+    say_reading(
+        b"read file 9",
+        9,
+        b"0000000001|0500000|a                                                           | |         | |          | |        \r\n",
+        1,
+    );
+    say_reading(
+        b"read composite 0",
+        8,
+        b"0000000001|0500000|a                                                           | |         | |          | |        \r\n",
+        0,
+    );
+    say_reading(
+        b"read composite 2",
+        8,
+        b"0000000001|0500000|a                                                           | |         | |          | |        \r\n",
+        2,
+    );
+    say_reading(
+        b"read composite of 116",
+        8,
+        b"0000000001|0500000|a                                                           | |         | |          | |        \r",
+        1,
+    );
+    say_reading(
+        b"read composite",
+        8,
+        b"0000000001|0500000|a                                                           | |         | |          | |        \r\n",
+        1,
+    );
+    say_reading(
+        b"read composite end",
+        8,
+        b"0000000001|0500000|a                                                           | |         | |          | |        \n\r",
+        1,
+    );
+    say_reading(
+        b"read composite bar",
+        8,
+        b"0000000001|0500000|a                                                           | ,         | |          | |        \r\n",
+        1,
+    );
+    say_reading(
+        b"read composite id",
+        8,
+        b"         1|0500000|a                                                           | |         | |          | |        \r\n",
+        1,
+    );
+    say_reading(
+        b"read composite name",
+        8,
+        b"0000000001|0500000| a                                                          | |         | |          | |        \r\n",
+        1,
+    );
+    say_reading(
+        b"read composite code ND",
+        8,
+        b"0000000001|ND     |a                                                           | |         | |          | |        \r\n",
+        1,
+    );
+    say_reading(
+        b"read composite only Z",
+        8,
+        b"0000000001|0500000|a                                                           | |         | |          |+|00000005\r\n",
+        1,
+    );
+    say_reading(
+        b"read composite minus zero",
+        8,
+        b"0000000001|0500000|a                                                           |+|000000001|-|0000000000| |        \r\n",
+        1,
+    );
+    say_reading(
+        b"read composite X and Y",
+        8,
+        b"0000000001|0500000|a                                                           |+|000000001|-|0000000002| |        \r\n",
+        1,
+    );
 }
 
 fn main() {
@@ -339,7 +471,9 @@ fn main() {
     vertices();
     texts();
     points();
-    say_reading(b"read record 0", 0);
-    say_reading(b"read record 2", 2);
-    say_reading(b"read record 1", 1);
+    composites();
+    say_node_reading(b"read record 0", 0);
+    say_node_reading(b"read record 2", 2);
+    say_node_reading(b"read record 1", 1);
+    composites_read();
 }

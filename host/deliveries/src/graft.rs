@@ -4,8 +4,10 @@
 use std::collections::BTreeSet;
 
 use crate::kinds::mend_codes;
-use crate::layout::{CATALOGO, NODO, OB_LIN, OB_PUN, OB_TEX, TRAMO, TYPES, VERTICE};
-use crate::model::{Catalogo, Model, Nodo, ObLin, ObPun, ObTex, Posicion, Tramo, Vertice};
+use crate::layout::{
+    CATALOGO, FILES, NODO, OB_COMP, OB_LIN, OB_PUN, OB_TEX, TRAMO, TYPES, VERTICE,
+};
+use crate::model::{Catalogo, Model, Nodo, ObComp, ObLin, ObPun, ObTex, Posicion, Tramo, Vertice};
 use crate::random::Random;
 use crate::values::{fresh_code, fresh_id, text, ID_MOST, X_MOST, Y_MOST};
 
@@ -50,6 +52,11 @@ pub fn text_ids(model: &Model) -> BTreeSet<u64> {
     model.ob_tex.iter().map(|text| text.id_otex).collect()
 }
 
+pub fn composite_ids(model: &Model) -> BTreeSet<u64> {
+    let own = model.ob_comp.iter().map(|composite| composite.id_ocomp);
+    own.chain(model.composites_named()).collect()
+}
+
 pub fn codes(model: &Model) -> BTreeSet<Vec<u8>> {
     let mut codes = codes_in_use(model);
     codes.extend(model.catalogo.iter().map(|record| record.codigo.clone()));
@@ -62,8 +69,9 @@ pub fn codes_in_use(model: &Model) -> BTreeSet<Vec<u8>> {
     let texts = model.ob_tex.iter().map(|record| &record.codigo);
     let linears = model.ob_lin.iter().map(|record| &record.codigo);
     let tramos = model.tramo.iter().map(|record| &record.codigo);
-    let all = points.chain(texts).chain(linears).chain(tramos);
-    all.cloned().collect()
+    let composites = model.ob_comp.iter().map(|record| &record.codigo);
+    let objects = points.chain(texts).chain(linears).chain(composites);
+    objects.chain(tramos).cloned().collect()
 }
 
 /// Puts a record anywhere in its file.
@@ -88,8 +96,8 @@ pub fn free_place(random: &mut Random, model: &Model) -> (i64, i64) {
 
 /// Adds a lawful piece with at least one record in each file: a line of so
 /// many vertices at different places, its tramo and linear object, its two end
-/// nodes, a point object on the first of them and one on its own, a text, and
-/// a new code for each.
+/// nodes, a point object on the first of them and one on its own, a text, a
+/// composite of some of these or of all, and a new code for each.
 pub fn graft(random: &mut Random, model: &mut Model, vertices: usize) {
     let code_of_type: Vec<Vec<u8>> = TYPES
         .iter()
@@ -121,9 +129,10 @@ pub fn graft(random: &mut Random, model: &mut Model, vertices: usize) {
         sentido: random.pick(b"+- "),
     };
     slip_in(random, &mut model.tramo, tramo);
+    let composite = graft_composite(random, model, &code_of_type[4]);
     let linear = ObLin {
         id_olin,
-        id_ocomp: None,
+        id_ocomp: Some(composite).filter(|_| random.chance(1, 2)),
         codigo: code_of_type[2].clone(),
         nombre_i: text(random, 60),
         centroide: Posicion::default(),
@@ -133,6 +142,28 @@ pub fn graft(random: &mut Random, model: &mut Model, vertices: usize) {
     let elsewhere = free_place(random, model);
     graft_point(random, model, &code_of_type[0], None, elsewhere);
     graft_text(random, model, &code_of_type[1], elsewhere);
+    join(random, model, composite);
+}
+
+/// Some object belongs to the composite: one that belonged to none, as the
+/// point objects and the text of a graft do.
+fn join(random: &mut Random, model: &mut Model, composite: u64) {
+    let mut free = model.memberships();
+    free.retain(|membership| membership.is_none());
+    let joins = random.one_of(free);
+    *joins.expect("a graft has objects without a composite") = Some(composite);
+}
+
+fn graft_composite(random: &mut Random, model: &mut Model, codigo: &[u8]) -> u64 {
+    let id_ocomp = fresh_id(random, &composite_ids(model));
+    let composite = ObComp {
+        id_ocomp,
+        codigo: codigo.to_vec(),
+        nombre_i: text(random, 60),
+        centroide: Posicion::default(),
+    };
+    slip_in(random, &mut model.ob_comp, composite);
+    id_ocomp
 }
 
 fn graft_code(random: &mut Random, model: &mut Model, tipo: u8) -> Vec<u8> {
@@ -194,7 +225,8 @@ fn graft_text(random: &mut Random, model: &mut Model, codigo: &[u8], place: (i64
 }
 
 /// Fills a file with lawful records up to the count. Filling OB_LIN fills
-/// TRAMO as well, since each linear object wants a tramo.
+/// TRAMO as well, since each linear object wants a tramo, and filling OB_COMP
+/// fills OB_PUN, since each composite wants an object.
 pub fn fill(random: &mut Random, model: &mut Model, file: usize, count: usize) {
     graft(random, model, 3);
     match file {
@@ -205,7 +237,8 @@ pub fn fill(random: &mut Random, model: &mut Model, file: usize, count: usize) {
         TRAMO => fill_tramo(model, count),
         VERTICE => fill_vertice(random, model, count),
         NODO => fill_nodo(model, count),
-        _ => panic!("there are seven files"),
+        OB_COMP => fill_ob_comp(model, count),
+        _ => panic!("there are {FILES} files"),
     }
     // What was added may pass by nodes that were there.
     mend_codes(random, model);
@@ -280,6 +313,27 @@ fn fill_ob_lin(model: &mut Model, count: usize) {
             tramo.id_olin = fresh.next().unwrap();
             model.ob_lin.push(ObLin {
                 id_olin: tramo.id_olin,
+                ..like.clone()
+            });
+        }
+    }
+}
+
+/// Every point object whose composite has another member gets one of its own.
+fn fill_ob_comp(model: &mut Model, count: usize) {
+    fill_ob_pun(model, count);
+    let taken = composite_ids(model);
+    let like = model.ob_comp[0].clone();
+    let mut fresh = unused(&taken);
+    let mut named: BTreeSet<Option<u64>> = BTreeSet::from([None]);
+    named.extend(model.ob_tex.iter().map(|text| text.id_ocomp));
+    named.extend(model.ob_lin.iter().map(|linear| linear.id_ocomp));
+    for point in &mut model.ob_pun {
+        if model.ob_comp.len() < count && !named.insert(point.id_ocomp) {
+            let id_ocomp = fresh.next().unwrap();
+            point.id_ocomp = Some(id_ocomp);
+            model.ob_comp.push(ObComp {
+                id_ocomp,
                 ..like.clone()
             });
         }

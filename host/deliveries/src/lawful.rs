@@ -6,8 +6,8 @@ use std::collections::{BTreeMap, BTreeSet};
 
 use crate::full::MOST_RECORDS;
 use crate::kinds::{lawful_code, Kinds};
-use crate::layout::TYPES;
-use crate::model::{Catalogo, Model, Nodo, ObLin, ObPun, ObTex, Posicion, Tramo, Vertice};
+use crate::layout::{PLAIN_TYPES, TYPES};
+use crate::model::{Catalogo, Model, Nodo, ObComp, ObLin, ObPun, ObTex, Posicion, Tramo, Vertice};
 use crate::random::Random;
 use crate::values::{
     any_id, coordinate, fresh_code, height, ids, justification, optional, orientation, take_id,
@@ -21,8 +21,12 @@ pub enum Size {
     Small,
     /// 0 to so many in each file; at least 8 must be allowed.
     UpTo(usize),
-    /// Exactly so many in each file, 8 to 16,384, always shuffled.
+    /// Exactly so many in each file but OB_COMP, 8 to 16,384, always shuffled.
+    /// There are no composites: what a seed gave before there were any it
+    /// still gives, so that times can be held against earlier ones.
     Exact(usize),
+    /// Exactly so many in each file, OB_COMP too.
+    Composed(usize),
 }
 
 type Xy = (i64, i64);
@@ -35,6 +39,9 @@ struct Counts {
     tramo: usize,
     vertice: usize,
     nodo: usize,
+    ob_comp: usize,
+    /// The types that codes are drawn of.
+    types: &'static [u8],
     /// Places where lines may begin and end. There are never more of them
     /// than nodes may be made.
     end_places: usize,
@@ -46,15 +53,22 @@ pub fn lawful(random: &mut Random, size: Size) -> Model {
         Size::Small => counts_up_to(random, 12),
         Size::UpTo(most) => counts_up_to(random, most),
         Size::Exact(count) => counts_exactly(count),
+        Size::Composed(count) => Counts {
+            ob_comp: count,
+            types: TYPES,
+            ..counts_exactly(count)
+        },
     };
+    let is_exact = matches!(size, Size::Exact(_) | Size::Composed(_));
     let spread = match size {
-        Size::Exact(_) => Spread::Plain,
+        _ if is_exact => Spread::Plain,
         _ => random.pick(&[Spread::Grid, Spread::Plain, Spread::Wild]),
     };
     let mut model = lay(random, &counts, spread);
-    match size {
-        Size::Exact(_) => shuffle_files(random, &mut model),
-        _ => arrange_files(random, &mut model),
+    if is_exact {
+        shuffle_files(random, &mut model);
+    } else {
+        arrange_files(random, &mut model);
     }
     model
 }
@@ -72,6 +86,8 @@ fn counts_exactly(count: usize) -> Counts {
         tramo: count,
         vertice: count,
         nodo: count,
+        ob_comp: 0,
+        types: PLAIN_TYPES,
         end_places: count / 3 + 1,
     }
 }
@@ -87,15 +103,21 @@ fn counts_up_to(random: &mut Random, most: usize) -> Counts {
         }
     };
     let tramo = up_to(5, 1, most);
+    let catalogo = up_to(12, 1, most);
+    let ob_pun = up_to(4, 1, most);
+    let ob_tex = up_to(4, 1, most);
+    let ob_lin = if tramo == 0 {
+        0
+    } else {
+        1 + random.index(tramo)
+    };
+    // Each composite wants an object that names it.
+    let namers = (ob_pun + ob_tex + ob_lin).min(most);
     Counts {
-        catalogo: up_to(12, 1, most),
-        ob_pun: up_to(4, 1, most),
-        ob_tex: up_to(4, 1, most),
-        ob_lin: if tramo == 0 {
-            0
-        } else {
-            1 + random.index(tramo)
-        },
+        catalogo,
+        ob_pun,
+        ob_tex,
+        ob_lin,
         tramo,
         vertice: if tramo == 0 {
             0
@@ -103,6 +125,12 @@ fn counts_up_to(random: &mut Random, most: usize) -> Counts {
             2 + random.index(most - 1)
         },
         nodo: if barren { 0 } else { random.index(most + 1) },
+        ob_comp: if random.chance(1, 3) {
+            0
+        } else {
+            random.index(namers + 1)
+        },
+        types: TYPES,
         end_places: 1 + random.index(most),
     }
 }
@@ -166,8 +194,13 @@ fn lay(random: &mut Random, counts: &Counts, spread: Spread) -> Model {
         tramo: tramos,
         vertice: vertices(random, &courses, &line_ids),
         nodo: ground.nodes,
+        ob_comp: Vec::new(),
     };
-    give_codes(random, &mut model, counts.catalogo);
+    if counts.ob_comp > 0 {
+        model.ob_comp = composites(random, counts.ob_comp, spread);
+        give_composites(random, &mut model);
+    }
+    give_codes(random, &mut model, counts);
     give_node_codes(random, &mut model);
     model
 }
@@ -465,6 +498,33 @@ fn linears(random: &mut Random, linear_ids: &[u64], spread: Spread) -> Vec<ObLin
         .collect()
 }
 
+fn composites(random: &mut Random, count: usize, spread: Spread) -> Vec<ObComp> {
+    ids(random, count)
+        .into_iter()
+        .map(|id_ocomp| ObComp {
+            id_ocomp,
+            codigo: Vec::new(),
+            nombre_i: text(random, 60),
+            centroide: centroid(random, spread),
+        })
+        .collect()
+}
+
+/// Each composite is named by an object at least, of any file that can; half
+/// of the others belong to none.
+fn give_composites(random: &mut Random, model: &mut Model) {
+    let own_ids: Vec<u64> = model.ob_comp.iter().map(|record| record.id_ocomp).collect();
+    let mut objects = model.memberships();
+    random.shuffle(&mut objects);
+    for (turn, membership) in objects.into_iter().enumerate() {
+        *membership = match own_ids.get(turn) {
+            Some(&id) => Some(id),
+            None if random.chance(1, 2) => None,
+            None => Some(random.pick(&own_ids)),
+        };
+    }
+}
+
 /// None, X and Y alone, or all three.
 fn centroid(random: &mut Random, spread: Spread) -> Posicion {
     match random.below(3) {
@@ -476,19 +536,20 @@ fn centroid(random: &mut Random, spread: Spread) -> Posicion {
 
 /// A catalogue with a code at least for every type in use, and a code of its
 /// type for every record that needs one.
-fn give_codes(random: &mut Random, model: &mut Model, count: usize) {
+fn give_codes(random: &mut Random, model: &mut Model, counts: &Counts) {
     let in_use = [
         !model.ob_pun.is_empty(),
         !model.ob_tex.is_empty(),
         !model.ob_lin.is_empty(),
         !model.tramo.is_empty(),
+        !model.ob_comp.is_empty(),
     ];
     let mut types: Vec<u8> = (0..TYPES.len())
         .filter(|&place| in_use[place])
         .map(|place| TYPES[place])
         .collect();
-    while types.len() < count {
-        types.push(random.pick(TYPES));
+    while types.len() < counts.catalogo {
+        types.push(random.pick(counts.types));
     }
     let mut taken = BTreeSet::new();
     let mut by_type: BTreeMap<u8, Vec<Vec<u8>>> = BTreeMap::new();
@@ -519,6 +580,9 @@ fn give_codes(random: &mut Random, model: &mut Model, count: usize) {
     for record in &mut model.tramo {
         record.codigo = code(b'T');
     }
+    for record in &mut model.ob_comp {
+        record.codigo = code(b'C');
+    }
 }
 
 /// Files may hold their records in any order.
@@ -530,6 +594,7 @@ pub(crate) fn shuffle_files(random: &mut Random, model: &mut Model) {
     random.shuffle(&mut model.tramo);
     random.shuffle(&mut model.vertice);
     random.shuffle(&mut model.nodo);
+    random.shuffle(&mut model.ob_comp);
 }
 
 /// Small deliveries are also met as laid, or turned round.

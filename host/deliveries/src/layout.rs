@@ -1,5 +1,5 @@
-//! The seven files of the base and their fields by place. The widths are those
-//! of source 000, section 5.5.
+//! The files and their fields by place. The widths are those of source 000,
+//! section 5.5.
 
 /// N: digits. A: text.
 #[derive(Clone, Copy, Debug, PartialEq, Eq)]
@@ -51,15 +51,22 @@ pub const OB_LIN: usize = 3;
 pub const TRAMO: usize = 4;
 pub const VERTICE: usize = 5;
 pub const NODO: usize = 6;
+pub const OB_COMP: usize = 7;
 
-pub const NAMES: [&str; 7] = [
-    "CATALOGO", "OB_PUN", "OB_TEX", "OB_LIN", "TRAMO", "VERTICE", "NODO",
+/// The number of files.
+pub const FILES: usize = 8;
+
+pub const NAMES: [&str; FILES] = [
+    "CATALOGO", "OB_PUN", "OB_TEX", "OB_LIN", "TRAMO", "VERTICE", "NODO", "OB_COMP",
 ];
 
 /// Bytes of a record, by file.
-pub const RECORD: [usize; 7] = [133, 149, 144, 128, 77, 54, 50];
+pub const RECORD: [usize; FILES] = [133, 149, 144, 128, 77, 54, 50, 117];
 
-pub const TYPES: &[u8] = b"PXLT";
+/// The catalogue's letters for OB_PUN, OB_TEX, OB_LIN, TRAMO and OB_COMP.
+pub const TYPES: &[u8] = b"PXLTC";
+/// Those of a delivery without composites, as it was before there were any.
+pub const PLAIN_TYPES: &[u8] = b"PXLT";
 const SIGNS: &[u8] = b"+-";
 const NODE_TYPES: &[u8] = b"ACEIH";
 const JUSTIFICATIONS: &[u8] = b"123456789";
@@ -199,6 +206,18 @@ const NODO_FIELDS: &[Field] = &[
     POS_Z,
 ];
 
+const OB_COMP_FIELDS: &[Field] = &[
+    must(n("ID_OCOMP", 10)),
+    CODIGO,
+    a("NOMBRE_I", 60),
+    SIGNO_X,
+    n("CEN_X", 9),
+    SIGNO_Y,
+    n("CEN_Y", 10),
+    SIGNO_Z,
+    n("CEN_Z", 8),
+];
+
 /// The fields of a file, in their order.
 pub fn fields(file: usize) -> &'static [Field] {
     match file {
@@ -209,7 +228,8 @@ pub fn fields(file: usize) -> &'static [Field] {
         TRAMO => TRAMO_FIELDS,
         VERTICE => VERTICE_FIELDS,
         NODO => NODO_FIELDS,
-        _ => panic!("there are seven files"),
+        OB_COMP => OB_COMP_FIELDS,
+        _ => panic!("there are {FILES} files"),
     }
 }
 

@@ -21,14 +21,14 @@ mod tests;
 mod values;
 
 pub use damage::{damage, damaged, Aim, Layer, Outcome, AIMS};
-pub use full::{full, MOST_RECORDS};
+pub use full::{composed, full, MOST_RECORDS};
 pub use kinds::{Kind, Kinds};
 pub use lawful::{lawful, Size};
 pub use layout::{
-    field_start, fields, Domain, Field, Form, CATALOGO, NAMES, NODO, OB_LIN, OB_PUN, OB_TEX,
-    RECORD, TRAMO, VERTICE,
+    field_start, fields, Domain, Field, Form, CATALOGO, FILES, NAMES, NODO, OB_COMP, OB_LIN,
+    OB_PUN, OB_TEX, RECORD, TRAMO, VERTICE,
 };
 pub use model::{
-    write, Catalogo, Files, Model, Nodo, ObLin, ObPun, ObTex, Posicion, Tramo, Vertice,
+    write, Catalogo, Files, Model, Nodo, ObComp, ObLin, ObPun, ObTex, Posicion, Tramo, Vertice,
 };
 pub use random::Random;

@@ -1,10 +1,12 @@
 //! A delivery as values, under MIGRA's names, and the plain writer of its
-//! seven files.
+//! files.
 
-use crate::layout::{CATALOGO, NODO, OB_LIN, OB_PUN, OB_TEX, RECORD, TRAMO, VERTICE};
+use crate::layout::{
+    CATALOGO, FILES, NODO, OB_COMP, OB_LIN, OB_PUN, OB_TEX, RECORD, TRAMO, VERTICE,
+};
 
-/// CATALOGO, OB_PUN, OB_TEX, OB_LIN, TRAMO, VERTICE, NODO.
-pub type Files = [Vec<u8>; 7];
+/// CATALOGO, OB_PUN, OB_TEX, OB_LIN, TRAMO, VERTICE, NODO, OB_COMP.
+pub type Files = [Vec<u8>; FILES];
 
 /// The six fields of a position or centroid: a signed number each, or missing.
 #[derive(Clone, Copy, Debug, Default, PartialEq, Eq)]
@@ -106,6 +108,14 @@ pub struct Nodo {
     pub posicion: Posicion,
 }
 
+#[derive(Clone, Debug, PartialEq, Eq)]
+pub struct ObComp {
+    pub id_ocomp: u64,
+    pub codigo: Vec<u8>,
+    pub nombre_i: Vec<u8>,
+    pub centroide: Posicion,
+}
+
 #[derive(Clone, Debug, Default, PartialEq, Eq)]
 pub struct Model {
     pub catalogo: Vec<Catalogo>,
@@ -115,9 +125,10 @@ pub struct Model {
     pub tramo: Vec<Tramo>,
     pub vertice: Vec<Vertice>,
     pub nodo: Vec<Nodo>,
+    pub ob_comp: Vec<ObComp>,
 }
 
-/// The model's seven files. It panics over a value wider than its field: that
+/// The model's files. It panics over a value wider than its field: that
 /// would be a mistake of the generator, not a damage.
 pub fn write(model: &Model) -> Files {
     [
@@ -128,6 +139,7 @@ pub fn write(model: &Model) -> Files {
         file(TRAMO, &model.tramo, put_tramo),
         file(VERTICE, &model.vertice, put_vertice),
         file(NODO, &model.nodo, put_nodo),
+        file(OB_COMP, &model.ob_comp, put_ob_comp),
     ]
 }
 
@@ -203,6 +215,13 @@ fn put_nodo(record: &Nodo, out: &mut Vec<u8>) {
     position(out, &record.posicion);
 }
 
+fn put_ob_comp(record: &ObComp, out: &mut Vec<u8>) {
+    number(out, 10, Some(record.id_ocomp));
+    text(out, 7, &record.codigo);
+    text(out, 60, &record.nombre_i);
+    position(out, &record.centroide);
+}
+
 fn position(out: &mut Vec<u8>, position: &Posicion) {
     coordinate(out, 9, position.x);
     coordinate(out, 10, position.y);
@@ -238,6 +257,24 @@ fn text(out: &mut Vec<u8>, width: usize, value: &[u8]) {
     out.extend_from_slice(value);
     out.resize(out.len() + width - value.len(), b' ');
     out.push(b'|');
+}
+
+impl Model {
+    /// The composite ids of all objects that may have one, to be changed.
+    pub fn memberships(&mut self) -> Vec<&mut Option<u64>> {
+        let points = self.ob_pun.iter_mut().map(|record| &mut record.id_ocomp);
+        let texts = self.ob_tex.iter_mut().map(|record| &mut record.id_ocomp);
+        let linears = self.ob_lin.iter_mut().map(|record| &mut record.id_ocomp);
+        points.chain(texts).chain(linears).collect()
+    }
+
+    /// The composite ids that objects have, each as often as it is named.
+    pub fn composites_named(&self) -> Vec<u64> {
+        let points = self.ob_pun.iter().map(|record| record.id_ocomp);
+        let texts = self.ob_tex.iter().map(|record| record.id_ocomp);
+        let linears = self.ob_lin.iter().map(|record| record.id_ocomp);
+        points.chain(texts).chain(linears).flatten().collect()
+    }
 }
 
 // What the damages ask of a model. They scan, since they meet small ones.

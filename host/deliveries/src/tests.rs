@@ -53,6 +53,10 @@ fn value_reasons(model: &Model) -> BTreeSet<u8> {
         ),
     );
     tell(30, doubled(model.nodo.iter().map(|record| record.id_nodo)));
+    tell(
+        30,
+        doubled(model.ob_comp.iter().map(|record| record.id_ocomp)),
+    );
 
     let types: BTreeMap<&Vec<u8>, u8> = model
         .catalogo
@@ -64,6 +68,7 @@ fn value_reasons(model: &Model) -> BTreeSet<u8> {
     coded.extend(model.ob_tex.iter().map(|record| (&record.codigo, b'X')));
     coded.extend(model.ob_lin.iter().map(|record| (&record.codigo, b'L')));
     coded.extend(model.tramo.iter().map(|record| (&record.codigo, b'T')));
+    coded.extend(model.ob_comp.iter().map(|record| (&record.codigo, b'C')));
     for (code, tipo) in coded {
         tell(40, !types.contains_key(code));
         tell(
@@ -88,15 +93,17 @@ fn value_reasons(model: &Model) -> BTreeSet<u8> {
     }
     let linears: BTreeSet<u64> = model.ob_lin.iter().map(|linear| linear.id_olin).collect();
     let used: BTreeSet<u64> = model.tramo.iter().map(Tramo::line).collect();
-    tell(
-        40,
-        model.ob_pun.iter().any(|point| point.id_ocomp.is_some()),
-    );
-    tell(40, model.ob_tex.iter().any(|text| text.id_ocomp.is_some()));
-    tell(
-        40,
-        model.ob_lin.iter().any(|linear| linear.id_ocomp.is_some()),
-    );
+    let composites: BTreeSet<u64> = model.ob_comp.iter().map(|one| one.id_ocomp).collect();
+    let mut members: Vec<Option<u64>> = Vec::new();
+    members.extend(model.ob_pun.iter().map(|point| point.id_ocomp));
+    members.extend(model.ob_tex.iter().map(|text| text.id_ocomp));
+    members.extend(model.ob_lin.iter().map(|linear| linear.id_ocomp));
+    for id in members.iter().flatten() {
+        tell(40, !composites.contains(id));
+    }
+    for composite in &composites {
+        tell(70, !members.contains(&Some(*composite)));
+    }
     tell(40, lines.keys().any(|line| !used.contains(line)));
     for tramo in &model.tramo {
         tell(40, tramo.id_perim.is_some());
@@ -197,7 +204,7 @@ fn value_reasons(model: &Model) -> BTreeSet<u8> {
 /// The reasons below 30 that occur among the bytes.
 fn form_reasons(files: &Files) -> BTreeSet<u8> {
     let mut found = BTreeSet::new();
-    for file in 0..7 {
+    for file in 0..FILES {
         if files[file].len() > MOST_RECORDS * RECORD[file] {
             found.insert(10);
         }
@@ -252,8 +259,13 @@ fn record_reasons(file: usize, record: &[u8], found: &mut BTreeSet<u8>) {
             tell(25, bytes == b"-" && all(contents[place + 1], b'0'));
         }
     }
-    if file == OB_LIN && blank[4..10].contains(&false) {
-        tell(24, blank[4..8].contains(&true));
+    let centroid = match file {
+        OB_LIN => &blank[4..10],
+        OB_COMP => &blank[3..9],
+        _ => &[],
+    };
+    if centroid.contains(&false) {
+        tell(24, centroid[..4].contains(&true));
     }
 }
 
@@ -269,6 +281,7 @@ fn size_of_seed(seed: u64) -> Size {
     match seed % 16 {
         0 => Size::UpTo(40),
         1 => Size::Exact(8 + seed as usize % 30),
+        2 => Size::Composed(8 + seed as usize % 30),
         _ => Size::Small,
     }
 }
@@ -292,6 +305,7 @@ fn layout_is_that_of_the_document() {
     assert_eq!(must(TRAMO), [1, 2, 5, 6, 7]);
     assert_eq!(must(VERTICE), [1, 2, 3, 4, 5, 6]);
     assert_eq!(must(NODO), [1, 3, 4, 5, 6]);
+    assert_eq!(must(OB_COMP), [1, 2]);
 }
 
 #[test]
@@ -315,6 +329,8 @@ fn same_seed_same_bytes() {
         assert_eq!(small(), small());
         let exact = || full(&mut Random::new(seed), 40);
         assert_eq!(exact(), exact());
+        let eight = || composed(&mut Random::new(seed), 40);
+        assert_eq!(eight(), eight());
         let broken = || damaged(&mut Random::new(seed));
         assert_eq!(broken(), broken());
     }
@@ -327,7 +343,7 @@ fn lawful_deliveries_are_lawful() {
         let size = size_of_seed(seed);
         let model = lawful(&mut Random::new(seed), size);
         let files = write(&model);
-        for file in 0..7 {
+        for file in 0..FILES {
             assert_eq!(files[file].len() % RECORD[file], 0);
             if size == Size::Small {
                 assert!(files[file].len() <= 12 * RECORD[file]);
@@ -341,14 +357,19 @@ fn lawful_deliveries_are_lawful() {
 #[test]
 fn full_deliveries_are_full_and_lawful() {
     for n in [8, 9, 64, 1000, MOST_RECORDS] {
-        let files = full(&mut Random::new(n as u64), n);
-        for file in 0..7 {
-            assert_eq!(files[file].len(), n * RECORD[file]);
+        let plain = full(&mut Random::new(n as u64), n);
+        let eight = composed(&mut Random::new(n as u64), n);
+        for file in 0..FILES {
+            let many = if file == OB_COMP { 0 } else { n };
+            assert_eq!(plain[file].len(), many * RECORD[file]);
+            assert_eq!(eight[file].len(), n * RECORD[file]);
         }
-        assert_eq!(form_reasons(&files), BTreeSet::new());
-        let model = lawful(&mut Random::new(n as u64), Size::Exact(n));
-        assert_eq!(value_reasons(&model), BTreeSet::new());
-        assert_eq!(write(&model), files);
+        for (size, files) in [(Size::Exact(n), plain), (Size::Composed(n), eight)] {
+            assert_eq!(form_reasons(&files), BTreeSet::new());
+            let model = lawful(&mut Random::new(n as u64), size);
+            assert_eq!(value_reasons(&model), BTreeSet::new());
+            assert_eq!(write(&model), files);
+        }
     }
 }
 
@@ -394,6 +415,17 @@ fn tramo_pairs(model: &Model, wanted: fn(&Tramo, &Tramo) -> bool) -> bool {
         model.tramo[place + 1..]
             .iter()
             .any(|second| wanted(first, second))
+    })
+}
+
+/// Whether a composite has members in these of OB_PUN, OB_TEX and OB_LIN alone.
+fn has_members(model: &Model, files: [bool; 3]) -> bool {
+    let mut composites = model.ob_comp.iter().map(|one| Some(one.id_ocomp));
+    composites.any(|id| {
+        let points = model.ob_pun.iter().any(|point| point.id_ocomp == id);
+        let texts = model.ob_tex.iter().any(|text| text.id_ocomp == id);
+        let linears = model.ob_lin.iter().any(|linear| linear.id_ocomp == id);
+        [points, texts, linears] == files
     })
 }
 
@@ -659,6 +691,42 @@ const SIGHTS: &[Sight] = &[
     ("both on one line alone", |model| {
         model.lines().len() == 1 && has_coded(model, b'H', Kind::Both)
     }),
+    ("no composites beside objects", |model| {
+        model.ob_comp.is_empty() && !model.ob_pun.is_empty()
+    }),
+    ("composite of points", |model| {
+        has_members(model, [true, false, false])
+    }),
+    ("composite of texts", |model| {
+        has_members(model, [false, true, false])
+    }),
+    ("composite of linear objects", |model| {
+        has_members(model, [false, false, true])
+    }),
+    ("composite of all three", |model| {
+        has_members(model, [true; 3])
+    }),
+    ("composite 0 and an object of none", |model| {
+        let blank = model.ob_tex.iter().any(|text| text.id_ocomp.is_none());
+        blank && model.ob_comp.iter().any(|one| one.id_ocomp == 0)
+    }),
+    ("composite with the id of its linear object", |model| {
+        model
+            .ob_lin
+            .iter()
+            .any(|linear| linear.id_ocomp == Some(linear.id_olin))
+    }),
+    ("composite with a centroid without Z", |model| {
+        let mut places = model.ob_comp.iter().map(|one| one.centroide);
+        places.any(|place| place.x.is_some() && place.z.is_none())
+    }),
+    ("composite without a centroid", |model| {
+        let mut places = model.ob_comp.iter().map(|one| one.centroide);
+        places.any(|place| place == Posicion::default())
+    }),
+    ("code C that nothing uses", |model| {
+        model.ob_comp.is_empty() && model.catalogo.iter().any(|record| record.tipo == b'C')
+    }),
     ("orientation 0", |model| {
         model.ob_pun.iter().any(|point| point.orientac == Some(0))
     }),
@@ -693,7 +761,7 @@ fn sorted_records(files: &Files) -> Vec<Vec<&[u8]>> {
         list.sort_unstable();
         list
     };
-    (0..7).map(records).collect()
+    (0..FILES).map(records).collect()
 }
 
 /// The reasons after an aim, as far as they can be told: those of the values
@@ -791,7 +859,7 @@ fn steps_do_what_their_aims_say() {
 
 #[test]
 fn any_file_can_be_filled_lawfully() {
-    for file in 0..7 {
+    for file in 0..FILES {
         let mut random = Random::new(file as u64);
         let mut model = lawful(&mut random, Size::Small);
         fill(&mut random, &mut model, file, MOST_RECORDS);
@@ -819,13 +887,13 @@ fn big_aims_do_what_they_say() {
 /// Every field, counted from 0, that an aim changed over many seeds.
 fn struck_fields(aim: Aim) -> BTreeSet<(usize, usize)> {
     let mut struck = BTreeSet::new();
-    for seed in 0..1000 {
+    for seed in 0..2000 {
         let mut random = Random::new(seed);
-        let mut model = lawful(&mut random, Size::Exact(8));
+        let mut model = lawful(&mut random, Size::Composed(8));
         let before = write(&model);
         let mut files = before.clone();
         damage(&mut random, &mut model, &mut files, aim);
-        for file in 0..7 {
+        for file in 0..FILES {
             let mut bytes = before[file].iter().zip(&files[file]);
             if let Some(byte) = bytes.position(|(old, new)| old != new) {
                 let places = 0..fields(file).len();
@@ -840,7 +908,7 @@ fn struck_fields(aim: Aim) -> BTreeSet<(usize, usize)> {
 
 fn fields_where(wanted: fn(&Field) -> bool) -> BTreeSet<(usize, usize)> {
     let mut found = BTreeSet::new();
-    for file in 0..7 {
+    for file in 0..FILES {
         let places = 0..fields(file).len();
         found.extend(
             places
@@ -875,7 +943,7 @@ fn aims_strike_every_field_they_can() {
     );
     assert!(struck_fields(Aim::MinusZero).is_superset(&fields_where(Field::is_sign)));
     assert!(struck_fields(Aim::MissingPartner).is_superset(&fields_where(Field::is_sign)));
-    let before_a_bar = fields_where(|_| true).len() - 7;
+    let before_a_bar = fields_where(|_| true).len() - FILES;
     assert_eq!(struck_fields(Aim::NoBar).len(), before_a_bar);
 }
 
@@ -896,9 +964,9 @@ fn the_table_is_in_the_order_of_the_aims() {
     for (place, &aim) in AIMS.iter().enumerate() {
         assert_eq!(aim as usize, place);
     }
-    assert_eq!(Aim::MixedTramo as usize + 1, AIMS.len());
+    assert_eq!(Aim::MixedComposites as usize + 1, AIMS.len());
     let told = [
-        10, 11, 20, 21, 22, 23, 24, 25, 30, 40, 41, 50, 51, 52, 53, 54, 55, 56, 57, 58,
+        10, 11, 20, 21, 22, 23, 24, 25, 30, 40, 41, 50, 51, 52, 53, 54, 55, 56, 57, 58, 70,
     ];
     for reason in told {
         assert!(AIMS

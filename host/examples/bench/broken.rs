@@ -1,7 +1,7 @@
 //! Every rule from 30 on broken as often as it can be, and hostile keys and places, beside the lawful delivery that they are made of.
 
-use crate::hostile::HOSTILE;
-use crate::throughout::{Case, ASTRAY, MISTYPED, REPEATED, UNKNOWN};
+use crate::hostile::{FULL, FULL_COMPOSED, HOSTILE, HOSTILE_COMPOSED};
+use crate::throughout::{Case, ASTRAY, MISTYPED, REPEATED, UNGROUPED, UNKNOWN};
 use crate::{both, judge, lent, once, places};
 use deliveries::{lawful, write, Files, Random, Size, MOST_RECORDS};
 
@@ -39,22 +39,29 @@ fn row(files: &Files, name: &str, due: &str, lawful: &Files) {
 /// All rows, for as many records as a file may have.
 pub fn broken_deliveries() {
     let n = MOST_RECORDS;
-    let model = lawful(&mut Random::new(n as u64), Size::Exact(n));
-    let files = write(&model);
     println!("judge, {n} records a file, milliseconds\n");
     println!("| broken, or hostile | line | canopyrail | independent | canopyrail, the lawful one | to the lawful one |");
     println!("|---|---|---|---|---|---|");
-    let counts = format!(" {n:05}").repeat(7);
-    row(&files, "nothing", &format!("OK{counts}"), &files);
     let groups: [&[Case]; 5] = [&REPEATED, &UNKNOWN, &MISTYPED, &ASTRAY, &HOSTILE];
-    for (name, due, change) in groups.concat() {
+    let files = rows(Size::Exact(n), FULL, &groups.concat());
+    let half = n / 2;
+    let together = places::delivery(&places::falling_together(half, places::WHOLE));
+    let due = format!("OK 00001 {n:05} 00000 00000 00000 00000 {half:05} 00000");
+    row(&together, "places that share one number", &due, &files);
+    let groups: [&[Case]; 2] = [&UNGROUPED, &HOSTILE_COMPOSED];
+    rows(Size::Composed(n), FULL_COMPOSED, &groups.concat());
+    println!();
+}
+
+/// The rows of a lawful delivery and of those made of it, and the lawful one.
+fn rows(size: Size, lawful_line: &str, cases: &[Case]) -> Files {
+    let model = lawful(&mut Random::new(MOST_RECORDS as u64), size);
+    let files = write(&model);
+    row(&files, "nothing", lawful_line, &files);
+    for (name, due, change) in cases {
         let mut changed = model.clone();
         change(&mut changed);
         row(&write(&changed), name, due, &files);
     }
-    let half = n / 2;
-    let together = places::delivery(&places::falling_together(half, places::WHOLE));
-    let due = format!("OK 00001 {n:05} 00000 00000 00000 00000 {half:05}");
-    row(&together, "places that share one number", &due, &files);
-    println!();
+    files
 }

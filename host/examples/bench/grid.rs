@@ -1,8 +1,9 @@
 //! The breaks counted, of deliveries that have as many as they can, beside the verdict on the lawful one that they are made of.
 
-use crate::{black_box, judge, lent, once, throughout};
+use crate::throughout::{self, Broken};
+use crate::{black_box, judge, lent, once};
 use canopyrail::Grid;
-use deliveries::{lawful, write, Files, Random, Size, MOST_RECORDS};
+use deliveries::{lawful, write, Files, Model, Random, Size, MOST_RECORDS};
 
 const TURNS: usize = 7;
 /// A count is to take at most so many times the time of the verdict on the lawful delivery.
@@ -31,14 +32,22 @@ fn row(files: &Files, name: &str, lawful: &Files) -> f64 {
 /// All rows, for as many records as a file may have.
 pub fn grids() {
     let n = MOST_RECORDS;
-    let model = lawful(&mut Random::new(n as u64), Size::Exact(n));
-    let files = write(&model);
     println!("grid, {n} records a file, milliseconds\n");
     println!("| broken | breaks | canopyrail | independent | verdict, the lawful one | to that verdict |");
     println!("|---|---|---|---|---|---|");
+    let drawn = |size| lawful(&mut Random::new(n as u64), size);
+    let (plain, composed) = (drawn(Size::Exact(n)), drawn(Size::Composed(n)));
+    let most = rows(&plain, throughout::all(&plain));
+    let most = most.max(rows(&composed, throughout::all_composed(&composed)));
+    println!("\nat most {most:.2} times the verdict's time; the aim is {AIM:.0}\n");
+}
+
+/// The rows of a lawful delivery and of those made of it, and the highest ratio.
+fn rows(lawful: &Model, broken: impl Iterator<Item = Broken>) -> f64 {
+    let files = write(lawful);
     let mut most = row(&files, "nothing", &files);
-    for (name, _, broken) in throughout::all(&model) {
+    for (name, _, broken) in broken {
         most = most.max(row(&broken, name, &files));
     }
-    println!("\nat most {most:.2} times the verdict's time; the aim is {AIM:.0}\n");
+    most
 }

@@ -15,7 +15,9 @@ const STEADY: u64 = 24_539;
 /// So many keys of ids share a place and the steady step.
 const TURNS: u64 = 9;
 
-const FULL: &str = "OK 16384 16384 16384 16384 16384 16384 16384";
+/// The lines of the lawful deliveries, without composites and with them.
+pub const FULL: &str = "OK 16384 16384 16384 16384 16384 16384 16384 00000";
+pub const FULL_COMPOSED: &str = "OK 16384 16384 16384 16384 16384 16384 16384 16384";
 
 pub const HOSTILE: [Case; 15] = [
     ("ids of OB_PUN from one place", FULL, |model| {
@@ -66,6 +68,16 @@ pub const HOSTILE: [Case; 15] = [
         name_lines(model, with_keys_on_one_way);
         name_nodes(model, on_one_way);
         share_all_places(model);
+    }),
+];
+
+/// Those that are made of a delivery with composites.
+pub const HOSTILE_COMPOSED: [Case; 2] = [
+    ("ids of OB_COMP from one place", FULL_COMPOSED, |model| {
+        name_composites(model, from_one_place)
+    }),
+    ("ids of OB_COMP on one way", FULL_COMPOSED, |model| {
+        name_composites(model, on_one_way)
     }),
 ];
 
@@ -165,6 +177,19 @@ fn name_nodes(model: &mut Model, ids: Ids) {
     }
     for point in &mut model.ob_pun {
         point.id_nodo = point.id_nodo.map(|id| names[&id]);
+    }
+}
+
+fn name_composites(model: &mut Model, ids: Ids) {
+    let names = renamed(
+        model.ob_comp.iter().map(|composite| composite.id_ocomp),
+        ids,
+    );
+    for composite in &mut model.ob_comp {
+        composite.id_ocomp = names[&composite.id_ocomp];
+    }
+    for member in model.memberships() {
+        *member = member.map(|id| names[&id]);
     }
 }
 

@@ -1,7 +1,8 @@
 //! How long `judge` takes beside the independent checker, on the same deliveries in the same run, both built for release.
 //!
-//! `cargo run --release --example bench` prints the tables of docs/BENCHMARKS.md, `bench -- NAME...` those named: lawful, damaged,
-//! keys, broken, grid, places, records, thread. `grid` is for the breaks counted: of the lawful delivery of 16,384 records a file, and
+//! `cargo run --release --example bench` prints the tables of docs/BENCHMARKS.md, `bench -- NAME...` those named: lawful, composed,
+//! damaged, keys, broken, grid, places, records, thread. The deliveries of `lawful` have no composites, as before there were any, those of
+//! `composed` as many as records of any other file. `grid` is for the breaks counted: of the lawful delivery of 16,384 records a file, and
 //! for each rule of the one made of it in which every record breaks that, beside the verdict on the lawful one, of which a count is to
 //! take at most four times the time. Times are the least of several turns, taken by turns so that both meet the same state of the
 //! machine; a ratio below 1 says that the library is faster.
@@ -14,8 +15,10 @@ mod places;
 #[path = "../../tests/throughout/mod.rs"]
 mod throughout;
 
-use canopyrail::Verdict;
-use deliveries::{damage, full, lawful, write, Files, Random, Size, AIMS};
+use canopyrail::{Verdict, FILES};
+use deliveries::{
+    composed, damage, full, lawful, write, Files, Random, Size, AIMS, OB_COMP, VERTICE,
+};
 use std::time::Instant;
 
 /// Keeps the compiler from seeing what becomes of a value.
@@ -24,10 +27,8 @@ fn black_box<T>(value: T) -> T {
     value
 }
 
-fn lent(files: &Files) -> [&[u8]; 7] {
-    [
-        &files[0], &files[1], &files[2], &files[3], &files[4], &files[5], &files[6],
-    ]
+fn lent(files: &Files) -> [&[u8]; FILES] {
+    std::array::from_fn(|file| files[file].as_slice())
 }
 
 /// Milliseconds of one call.
@@ -55,15 +56,18 @@ fn both(files: &Files, turns: usize) -> (f64, f64) {
     least
 }
 
-fn lawful_deliveries() {
-    println!("judge, lawful deliveries of n records a file, milliseconds\n");
+/// A lawful delivery of so many records a file.
+type Make = fn(&mut Random, usize) -> Files;
+
+fn lawful_deliveries(which: &str, make: Make) {
+    println!("judge, lawful deliveries of n records a file, {which}, milliseconds\n");
     println!("| n | bytes in all | canopyrail | independent | ratio | to the n before |");
     println!("|---|---|---|---|---|---|");
     let mut before = None;
     for n in [
         8usize, 64, 128, 256, 512, 1_024, 2_048, 4_096, 8_192, 16_384,
     ] {
-        let files = full(&mut Random::new(n as u64), n);
+        let files = make(&mut Random::new(n as u64), n);
         let bytes: usize = files.iter().map(Vec::len).sum();
         let turns = (160_000 / n).clamp(9, 1_000);
         let (ours, theirs) = both(&files, turns);
@@ -123,12 +127,13 @@ fn repeated_keys(n: usize) {
     println!("judge, one key repeated at the far end of a file of {n} records, milliseconds\n");
     println!("| file | line | canopyrail | independent |");
     println!("|---|---|---|---|");
-    for file in 0..7 {
-        let mut files = full(&mut Random::new(n as u64), n);
+    for file in 0..FILES {
+        let make: Make = if file == OB_COMP { composed } else { full };
+        let mut files = make(&mut Random::new(n as u64), n);
         let length = files[file].len() / n;
         let key = if file == 0 {
             7
-        } else if file == 5 {
+        } else if file == VERTICE {
             16
         } else {
             10
@@ -184,7 +189,8 @@ fn thread() {
 
 /// One record read and written, nanoseconds.
 fn one_record() {
-    let files = full(&mut Random::new(1), 64);
+    let mut files = full(&mut Random::new(1), 64);
+    files[OB_COMP] = std::mem::take(&mut composed(&mut Random::new(1), 64)[OB_COMP]);
     println!("one record, nanoseconds (64 records by turns, 200 times)\n");
     println!("| file | read | read, independent | write | write, independent |");
     println!("|---|---|---|---|---|");
@@ -233,8 +239,11 @@ fn one_record() {
 
 type Table = (&'static str, fn());
 
-const TABLES: [Table; 8] = [
-    ("lawful", lawful_deliveries),
+const TABLES: [Table; 9] = [
+    ("lawful", || lawful_deliveries("no composites", full)),
+    ("composed", || {
+        lawful_deliveries("and n composites", composed)
+    }),
     ("damaged", || damaged_deliveries(4_096)),
     ("keys", || repeated_keys(16_384)),
     ("broken", broken::broken_deliveries),

@@ -9,7 +9,7 @@
 pub struct Break {
     /// The reason's number in document 01.
     pub reason: u8,
-    /// The file, 1 to 7.
+    /// The file, 1 to 8.
     pub file: usize,
     /// The record, 0 for a file that is too long.
     pub record: usize,

@@ -3,7 +3,7 @@
 
 use crate::breaks::{broken, Listener};
 use crate::codec::Refusal;
-use crate::layout::LENGTHS;
+use crate::layout::{FILES, LENGTHS};
 use crate::record::{check, parse, Cells, Code};
 
 pub(crate) struct Entry {
@@ -59,6 +59,11 @@ pub(crate) struct Node {
     pub z: Option<i64>,
 }
 
+pub(crate) struct Composite {
+    pub id: u64,
+    pub code: Code,
+}
+
 pub(crate) struct Delivery {
     pub entries: Vec<Entry>,
     pub points: Vec<Point>,
@@ -67,12 +72,16 @@ pub(crate) struct Delivery {
     pub tramos: Vec<Tramo>,
     pub vertices: Vec<Vertex>,
     pub nodes: Vec<Node>,
+    pub composites: Vec<Composite>,
 }
 
 impl Delivery {
     /// Takes all records apart, and tells the breaks of the twenties. A record
     /// that has one is left out.
-    pub fn parse<L: Listener>(files: [&[u8]; 7], listener: &mut L) -> Result<Delivery, L::Stop> {
+    pub fn parse<L: Listener>(
+        files: [&[u8]; FILES],
+        listener: &mut L,
+    ) -> Result<Delivery, L::Stop> {
         Ok(Delivery {
             entries: records(1, files[0], entry, listener)?,
             points: records(2, files[1], point, listener)?,
@@ -81,6 +90,7 @@ impl Delivery {
             tramos: records(5, files[4], tramo, listener)?,
             vertices: records(6, files[5], vertex, listener)?,
             nodes: records(7, files[6], node, listener)?,
+            composites: records(8, files[7], composite, listener)?,
         })
     }
 }
@@ -178,5 +188,12 @@ fn node(cells: &Cells) -> Node {
         x: cells.place(4),
         y: cells.place(6),
         z: cells.coordinate(8),
+    }
+}
+
+fn composite(cells: &Cells) -> Composite {
+    Composite {
+        id: cells.id(1),
+        code: cells.code(2),
     }
 }

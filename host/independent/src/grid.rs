@@ -1,19 +1,23 @@
-//! All breaks of a delivery, counted: request W-201.
+//! All breaks of a delivery, counted: requests W-201 and W-204.
 
 use crate::breaks::{Break, Listener};
+use crate::layout::FILES;
 use crate::rules;
 
-/// Counts of breaks: a row for each file, and in it the tens, the twenties,
-/// the thirties, the forties and the fifties.
-pub type Grid = [[u64; 5]; 7];
+/// The tens that reasons of a delivery have, a column each. The sixties belong
+/// to single records.
+pub const TENS: [u8; 6] = [1, 2, 3, 4, 5, 7];
+
+/// Counts of breaks: a row for each file, and in it a count for each ten.
+pub type Grid = [[u64; TENS.len()]; FILES];
 
 /// The most that a cell of a sum may hold: ten digits are printed of it.
 const MOST: u64 = 9_999_999_999;
 
 /// Counts every break of the lowest ten that has any, all else zero.
-pub fn grid(files: [&[u8]; 7]) -> Grid {
+pub fn grid(files: [&[u8]; FILES]) -> Grid {
     let mut count = Count {
-        grid: [[0; 5]; 7],
+        grid: [[0; TENS.len()]; FILES],
         any: false,
     };
     match rules::check(files, &mut count) {
@@ -49,8 +53,9 @@ impl Listener for Count {
     type Stop = Counted;
 
     fn hear(&mut self, found: Break) -> Result<(), Counted> {
-        let ten = usize::from(found.reason / 10);
-        self.grid[found.file - 1][ten - 1] += 1;
+        for (cell, ten) in self.grid[found.file - 1].iter_mut().zip(TENS) {
+            *cell += u64::from(ten == found.reason / 10);
+        }
         self.any = true;
         Ok(())
     }

@@ -14,6 +14,7 @@ pub(crate) struct Keys {
     /// By line and order.
     pub vertices: HashMap<(u64, u64), usize>,
     pub nodes: HashMap<u64, usize>,
+    pub composites: HashMap<u64, usize>,
 }
 
 impl Keys {
@@ -27,11 +28,13 @@ impl Keys {
         let orders = delivery.vertices.iter().map(|v| (v.line, v.order));
         let vertices = by_key(6, 2, orders, listener)?;
         let nodes = by_key(7, 1, delivery.nodes.iter().map(|n| n.id), listener)?;
+        let composites = by_key(8, 1, delivery.composites.iter().map(|c| c.id), listener)?;
         Ok(Keys {
             codes,
             linears,
             vertices,
             nodes,
+            composites,
         })
     }
 }

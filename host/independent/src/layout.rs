@@ -1,15 +1,19 @@
-//! What the seven files are made of: the table at the head of document 01.
+//! What the files are made of: the table at the head of document 01, and
+//! OB_COMP by section 5.5.2 of source 000.
 
 use Form::{Code, Justification, NodeType, Number, Orientation, Sense, Sign, Size, Text, Tipo};
 use Need::{Always, Never, WithCentroid};
 
-/// The seven files' names, in their order.
-pub const NAMES: [&str; 7] = [
-    "CATALOGO", "OB_PUN", "OB_TEX", "OB_LIN", "TRAMO", "VERTICE", "NODO",
+/// The number of files of a delivery.
+pub const FILES: usize = 8;
+
+/// The files' names, in the order of their numbers.
+pub const NAMES: [&str; FILES] = [
+    "CATALOGO", "OB_PUN", "OB_TEX", "OB_LIN", "TRAMO", "VERTICE", "NODO", "OB_COMP",
 ];
 
 /// The bytes of one record of each file, bars and line end included.
-pub const LENGTHS: [usize; 7] = [133, 149, 144, 128, 77, 54, 50];
+pub const LENGTHS: [usize; FILES] = [133, 149, 144, 128, 77, 54, 50, 117];
 
 /// The most records a file may hold.
 pub(crate) const MOST_RECORDS: usize = 16_384;
@@ -24,7 +28,7 @@ pub enum Form {
     Text,
     /// CODIGO, where NA and ND count as missing.
     Code,
-    /// The catalogue's TIPO: P, X, L or T.
+    /// The catalogue's TIPO: P, X, L, T or C.
     Tipo,
     /// A node's TIPO: A, C, E, I or H.
     NodeType,
@@ -166,6 +170,18 @@ static NODO: [Field; 8] = [
     field("POS_Z", Size, 8, Never),
 ];
 
+static OB_COMP: [Field; 9] = [
+    field("ID_OCOMP", Number, 10, Always),
+    field("CODIGO", Code, 7, Always),
+    field("NOMBRE_I", Text, 60, Never),
+    field("SIGNO_X", Sign, 1, WithCentroid),
+    field("CEN_X", Size, 9, WithCentroid),
+    field("SIGNO_Y", Sign, 1, WithCentroid),
+    field("CEN_Y", Size, 10, WithCentroid),
+    field("SIGNO_Z", Sign, 1, Never),
+    field("CEN_Z", Size, 8, Never),
+];
+
 /// The fields of a file, none for a number that names no file.
 pub(crate) fn layout(file: usize) -> &'static [Field] {
     match file {
@@ -176,6 +192,7 @@ pub(crate) fn layout(file: usize) -> &'static [Field] {
         5 => &TRAMO,
         6 => &VERTICE,
         7 => &NODO,
+        8 => &OB_COMP,
         _ => &[],
     }
 }
@@ -225,7 +242,7 @@ mod tests {
 
     #[test]
     fn signs_and_sizes_stand_in_pairs_of_one_need() {
-        for file in 1..=7 {
+        for file in 1..=FILES {
             let fields = layout(file);
             for (i, f) in fields.iter().enumerate() {
                 if f.form == Sign {
@@ -242,7 +259,7 @@ mod tests {
     fn no_such_field_is_told_without_panic() {
         for (file, field) in [
             (0, 1),
-            (8, 1),
+            (FILES + 1, 1),
             (1, 0),
             (1, 5),
             (usize::MAX, 1),
@@ -252,8 +269,8 @@ mod tests {
             assert_eq!(field_name(file, field), "");
             assert_eq!(form(file, field), Form::Text);
         }
-        assert_eq!((fields(0), fields(8)), (0, 0));
-        assert_eq!((length(0), length(8)), (None, None));
+        assert_eq!((fields(0), fields(FILES + 1)), (0, 0));
+        assert_eq!((length(0), length(FILES + 1)), (None, None));
     }
 
     #[test]
@@ -269,6 +286,10 @@ mod tests {
         assert_eq!(
             (field_name(5, 8), width(5, 8), form(5, 8)),
             ("SENTIDO", 1, Sense)
+        );
+        assert_eq!(
+            (field_name(8, 9), width(8, 9), form(8, 9)),
+            ("CEN_Z", 8, Size)
         );
         assert_eq!((form(2, 6), form(3, 7)), (Orientation, Orientation));
         assert_eq!((form(3, 8), form(7, 2)), (Justification, NodeType));

@@ -1,6 +1,6 @@
 //! A second checker and codec for MIGRA v1 map deliveries.
 //!
-//! It is written from document 01, requests W-201 to W-203 of document 02 and
+//! It is written from document 01, requests W-201 to W-204 of document 02 and
 //! the notes of source 000 that these name, alone, and exists to be compared
 //! byte for byte with the proved library: the same files, records and values go
 //! to both, and both must say the same. So it shares no code with that library
@@ -15,6 +15,7 @@
 
 mod breaks;
 mod codec;
+mod composites;
 mod delivery;
 mod grid;
 mod keys;
@@ -27,6 +28,6 @@ mod verdict;
 
 pub use breaks::Break;
 pub use codec::{read, write, Refusal, Value};
-pub use grid::{add, grid, Grid};
-pub use layout::{field_name, fields, form, width, Form, LENGTHS, NAMES};
+pub use grid::{add, grid, Grid, TENS};
+pub use layout::{field_name, fields, form, width, Form, FILES, LENGTHS, NAMES};
 pub use verdict::{counts, judge, line, program_line, Verdict};

@@ -184,7 +184,7 @@ fn is_visible(end: Option<&u8>) -> bool {
 /// Whether a text is outside the domain of its form, - before zero apart.
 pub(crate) fn is_other_text(form: Form, text: &[u8]) -> bool {
     match form {
-        Form::Tipo => !matches!(text, b"P" | b"X" | b"L" | b"T"),
+        Form::Tipo => !matches!(text, b"P" | b"X" | b"L" | b"T" | b"C"),
         Form::NodeType => !matches!(text, b"A" | b"C" | b"E" | b"I" | b"H"),
         Form::Sense | Form::Sign => !matches!(text, b"+" | b"-"),
         _ => false,

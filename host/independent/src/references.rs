@@ -17,17 +17,17 @@ pub(crate) fn check<L: Listener>(
     listener: &mut L,
 ) -> Result<(), L::Stop> {
     for (i, point) in delivery.points.iter().enumerate() {
-        listener.ensure(point.composite.is_none(), 40, (2, i, 2))?;
+        check_composite(keys, point.composite, (2, i, 2), listener)?;
         let known = point.node.map_or(true, |id| keys.nodes.contains_key(&id));
         listener.ensure(known, 40, (2, i, 3))?;
         check_code(delivery, keys, &point.code, b'P', (2, i, 4), listener)?;
     }
     for (i, label) in delivery.labels.iter().enumerate() {
-        listener.ensure(label.composite.is_none(), 40, (3, i, 2))?;
+        check_composite(keys, label.composite, (3, i, 2), listener)?;
         check_code(delivery, keys, &label.code, b'X', (3, i, 3), listener)?;
     }
     for (i, linear) in delivery.linears.iter().enumerate() {
-        listener.ensure(linear.composite.is_none(), 40, (4, i, 2))?;
+        check_composite(keys, linear.composite, (4, i, 2), listener)?;
         check_code(delivery, keys, &linear.code, b'L', (4, i, 3), listener)?;
     }
     for (i, tramo) in delivery.tramos.iter().enumerate() {
@@ -37,7 +37,21 @@ pub(crate) fn check<L: Listener>(
     for (i, vertex) in delivery.vertices.iter().enumerate() {
         listener.ensure(used.contains(&vertex.line), 40, (6, i, 1))?;
     }
+    for (i, composite) in delivery.composites.iter().enumerate() {
+        check_code(delivery, keys, &composite.code, b'C', (8, i, 2), listener)?;
+    }
     Ok(())
+}
+
+/// An object may belong to a composite one, which then has to be there.
+fn check_composite<L: Listener>(
+    keys: &Keys,
+    named: Option<u64>,
+    place: Place,
+    listener: &mut L,
+) -> Result<(), L::Stop> {
+    let known = named.map_or(true, |id| keys.composites.contains_key(&id));
+    listener.ensure(known, 40, place)
 }
 
 fn check_tramo<L: Listener>(

@@ -3,11 +3,11 @@
 use crate::breaks::{broken, Break, Listener};
 use crate::delivery::Delivery;
 use crate::keys::Keys;
-use crate::layout::{LENGTHS, MOST_RECORDS};
-use crate::{references, topology};
+use crate::layout::{FILES, LENGTHS, MOST_RECORDS};
+use crate::{composites, references, topology};
 
 /// Tells all breaks until the listener stops.
-pub(crate) fn check<L: Listener>(files: [&[u8]; 7], listener: &mut L) -> Result<(), L::Stop> {
+pub(crate) fn check<L: Listener>(files: [&[u8]; FILES], listener: &mut L) -> Result<(), L::Stop> {
     check_lengths(files, listener)?;
     listener.end_ten()?;
     let delivery = Delivery::parse(files, listener)?;
@@ -18,10 +18,12 @@ pub(crate) fn check<L: Listener>(files: [&[u8]; 7], listener: &mut L) -> Result<
     references::check(&delivery, &keys, &lines, listener)?;
     listener.end_ten()?;
     topology::check(&delivery, &keys, &lines, listener)?;
+    listener.end_ten()?;
+    composites::check(&delivery, listener)?;
     listener.end_ten()
 }
 
-fn check_lengths<L: Listener>(files: [&[u8]; 7], listener: &mut L) -> Result<(), L::Stop> {
+fn check_lengths<L: Listener>(files: [&[u8]; FILES], listener: &mut L) -> Result<(), L::Stop> {
     for (i, bytes) in files.iter().enumerate() {
         let length = LENGTHS[i];
         if bytes.len() > MOST_RECORDS * length {

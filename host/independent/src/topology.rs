@@ -232,6 +232,7 @@ mod tests {
             tramos: vec![tramo],
             vertices: Vec::new(),
             nodes: Vec::new(),
+            composites: Vec::new(),
         };
         let keys = match Keys::gather(&delivery, &mut First) {
             Ok(keys) => keys,

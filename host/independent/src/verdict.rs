@@ -1,7 +1,7 @@
 //! The verdict on a delivery, and the line the program prints of it.
 
 use crate::breaks::{Break, First};
-use crate::layout::LENGTHS;
+use crate::layout::{FILES, LENGTHS};
 use crate::rules;
 
 /// The file bytes past which the program says BIG.
@@ -11,14 +11,14 @@ const BIG: usize = 8_192;
 #[derive(Clone, Debug, PartialEq, Eq)]
 pub enum Verdict {
     /// No rule is broken; the whole records of each file.
-    Accepted([usize; 7]),
+    Accepted([usize; FILES]),
     /// The first break.
     Broken(Break),
 }
 
 /// The whole records in each file's bytes.
-pub fn counts(files: [&[u8]; 7]) -> [usize; 7] {
-    let mut counts = [0; 7];
+pub fn counts(files: [&[u8]; FILES]) -> [usize; FILES] {
+    let mut counts = [0; FILES];
     for (i, count) in counts.iter_mut().enumerate() {
         *count = files[i].len() / LENGTHS[i];
     }
@@ -26,7 +26,7 @@ pub fn counts(files: [&[u8]; 7]) -> [usize; 7] {
 }
 
 /// Judges a delivery of files of any size.
-pub fn judge(files: [&[u8]; 7]) -> Verdict {
+pub fn judge(files: [&[u8]; FILES]) -> Verdict {
     match rules::check(files, &mut First) {
         Ok(()) => Verdict::Accepted(counts(files)),
         Err(broken) => Verdict::Broken(broken),
@@ -47,8 +47,8 @@ pub fn line(verdict: &Verdict) -> String {
     }
 }
 
-/// The program's line for seven files, BIG included.
-pub fn program_line(files: [&[u8]; 7]) -> String {
+/// The program's line for a delivery, BIG included.
+pub fn program_line(files: [&[u8]; FILES]) -> String {
     match files.iter().position(|bytes| bytes.len() > BIG) {
         Some(i) => format!("BIG {}\n", i + 1),
         None => line(&judge(files)),

@@ -6,7 +6,7 @@ use canopyrail::{Break, Reason};
 use super::{likeness, Page};
 use crate::delivery::Delivery;
 use crate::layout::{end_part, field_words, limit, x_field, Part};
-use crate::layout::{CATALOGO, NODO, OB_LIN, TRAMO};
+use crate::layout::{CATALOGO, NODO, OB_COMP, OB_LIN, TRAMO};
 use crate::picture::{byte_words, grouped, many, shown, NO_BREAK};
 
 pub fn too_long(page: &mut Page, b: &Break) {
@@ -226,18 +226,18 @@ fn missing(file: usize, record: &[u8], field: usize) -> String {
                 shown(part(other))
             )
         }
-        Some(_) if file == OB_LIN => centroid_words(record),
+        Some(_) if [OB_LIN, OB_COMP].contains(&file) => centroid_words(file, record),
         _ => "The field is blank.".to_string(),
     }
 }
 
 /// Which parts of a centroid are there.
-fn centroid_words(record: &[u8]) -> String {
-    let there = |field: &usize| !is_blank(Part::field(OB_LIN, *field).of(record));
-    let first = x_field(OB_LIN) - 1;
+fn centroid_words(file: usize, record: &[u8]) -> String {
+    let there = |field: &usize| !is_blank(Part::field(file, *field).of(record));
+    let first = x_field(file) - 1;
     let filled: Vec<&str> = (first..first + 6)
         .filter(there)
-        .map(|field| names::field(OB_LIN, field))
+        .map(|field| names::field(file, field))
         .collect();
     format!(
         "The field is blank, and of the centroid these are filled: {}.",
@@ -254,7 +254,7 @@ fn outside(file: usize, record: &[u8], field: usize) -> String {
         );
     }
     let may = match (file, names::field(file, field)) {
-        (CATALOGO, "TIPO") => "P (point), X (text), L (line) or T (tramo)",
+        (CATALOGO, "TIPO") => "P (point), X (text), L (line), T (tramo) or C (composite)",
         (NODO, "TIPO") => {
             "A (isolated), C (connected), E (end), I (intermediate), H (end and intermediate) or a \
              blank"

@@ -5,7 +5,7 @@ use canopyrail::{names, Break, Reason};
 use super::{counted, line_words, Page};
 use crate::delivery::Delivery;
 use crate::layout::{key_parts, Part};
-use crate::layout::{CATALOGO, NODO, OB_LIN, OB_PUN, OB_TEX, TRAMO, VERTICE};
+use crate::layout::{CATALOGO, NODO, OB_COMP, OB_LIN, OB_PUN, OB_TEX, TRAMO, VERTICE};
 use crate::picture::shown;
 
 pub fn same_key(page: &mut Page, delivery: &Delivery, b: &Break) {
@@ -46,7 +46,8 @@ fn sought(file: usize, field: usize) -> Sought {
         (TRAMO, "ID_OLIN") => Sought::In(OB_LIN),
         (TRAMO, "ID_LINEA") => Sought::Line,
         (VERTICE, "ID_LINEA") => Sought::User,
-        (_, "ID_OCOMP") | (_, "ID_PERIM") => Sought::Nowhere,
+        (_, "ID_OCOMP") => Sought::In(OB_COMP),
+        (_, "ID_PERIM") => Sought::Nowhere,
         _ => Sought::In(NODO),
     }
 }
@@ -141,6 +142,7 @@ fn letter_words(letter: u8) -> String {
         b'X' => " (text)",
         b'L' => " (line)",
         b'T' => " (tramo)",
+        b'C' => " (composite)",
         _ => "",
     };
     format!("{}{meaning}", shown(&[letter]))
@@ -152,6 +154,7 @@ fn own_letter(file: usize) -> u8 {
         OB_PUN => b'P',
         OB_TEX => b'X',
         OB_LIN => b'L',
+        OB_COMP => b'C',
         _ => b'T',
     }
 }

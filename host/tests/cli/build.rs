@@ -7,13 +7,16 @@ pub const OB_LIN: usize = 4;
 pub const TRAMO: usize = 5;
 pub const VERTICE: usize = 6;
 pub const NODO: usize = 7;
+pub const OB_COMP: usize = 8;
 
-pub const NAMES: [&str; 7] = [
-    "CATALOGO", "OB_PUN", "OB_TEX", "OB_LIN", "TRAMO", "VERTICE", "NODO",
+pub const FILES: usize = 8;
+
+pub const NAMES: [&str; FILES] = [
+    "CATALOGO", "OB_PUN", "OB_TEX", "OB_LIN", "TRAMO", "VERTICE", "NODO", "OB_COMP",
 ];
 
-/// Document 01's widths.
-pub const WIDTHS: [&[usize]; 7] = [
+/// Document 01's widths, and those of OB_COMP.
+pub const WIDTHS: [&[usize]; FILES] = [
     &[7, 1, 60, 60],
     &[10, 10, 10, 7, 60, 5, 3, 1, 9, 1, 10, 1, 8],
     &[10, 10, 7, 60, 3, 3, 5, 1, 1, 9, 1, 10, 1, 8],
@@ -21,10 +24,11 @@ pub const WIDTHS: [&[usize]; 7] = [
     &[10, 10, 10, 10, 7, 10, 10, 1],
     &[10, 5, 1, 9, 1, 10, 1, 8],
     &[10, 1, 1, 9, 1, 10, 1, 8],
+    &[10, 7, 60, 1, 9, 1, 10, 1, 8],
 ];
 
-/// Document 01's record lengths.
-pub const LENGTHS: [usize; 7] = [133, 149, 144, 128, 77, 54, 50];
+/// The record lengths.
+pub const LENGTHS: [usize; FILES] = [133, 149, 144, 128, 77, 54, 50, 117];
 
 pub fn length(file: usize) -> usize {
     LENGTHS[file - 1]
@@ -40,7 +44,7 @@ pub fn offset(file: usize, field: usize) -> usize {
 /// A delivery that a test puts together.
 #[derive(Clone, Default)]
 pub struct Files {
-    pub bytes: [Vec<u8>; 7],
+    pub bytes: [Vec<u8>; FILES],
 }
 
 impl Files {
@@ -119,9 +123,18 @@ impl Files {
         files.with(OB_PUN, &fields)
     }
 
-    pub fn slices(&self) -> [&[u8]; 7] {
-        let [a, b, c, d, e, f, g] = &self.bytes;
-        [a, b, c, d, e, f, g]
+    /// A composite object, with a code of its type if none is there.
+    pub fn composite(self, id: &str) -> Files {
+        let files = if self.bytes[OB_COMP - 1].is_empty() {
+            self.code("0500000", "C")
+        } else {
+            self
+        };
+        files.with(OB_COMP, &[(1, id), (2, "0500000")])
+    }
+
+    pub fn slices(&self) -> [&[u8]; FILES] {
+        std::array::from_fn(|file| self.bytes[file].as_slice())
     }
 }
 

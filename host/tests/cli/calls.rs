@@ -4,12 +4,12 @@ use canopyrail::{names, Break, Reason, Refusal, Value, Verdict};
 use std::error::Error;
 
 use crate::build::{
-    length, offset, s, Files, CATALOGO, NAMES, NODO, OB_TEX, TRAMO, VERTICE, WIDTHS,
+    length, offset, s, Files, CATALOGO, FILES, NAMES, NODO, OB_COMP, OB_TEX, TRAMO, VERTICE, WIDTHS,
 };
 
 #[test]
 fn the_tables_agree() {
-    for file in 1..=7 {
+    for file in 1..=FILES {
         assert_eq!(names::file(file), NAMES[file - 1]);
         assert_eq!(names::number_of(NAMES[file - 1]), Some(file));
         assert_eq!(canopyrail::length(file), length(file));
@@ -35,7 +35,7 @@ fn the_tables_agree() {
             );
         }
     }
-    for file in [0, 8, usize::MAX] {
+    for file in [0, FILES + 1, usize::MAX] {
         assert_eq!(
             (
                 canopyrail::fields(file),
@@ -54,7 +54,7 @@ fn the_tables_agree() {
 /// Document 01's reasons.
 fn numbers() -> Vec<u8> {
     let reasons = (10..=11).chain(20..=25).chain([30, 40, 41]);
-    reasons.chain(50..=59).chain(60..=67).collect()
+    reasons.chain(50..=59).chain(60..=67).chain([70]).collect()
 }
 
 #[test]
@@ -120,7 +120,7 @@ fn breaks_and_refusals_are_errors_in_words() {
         "field 1: reason 62: the value is too large for its digits"
     );
     let read = told(|| {
-        canopyrail::read(8, &[], 1)?;
+        canopyrail::read(FILES + 1, &[], 1)?;
         Ok(())
     });
     assert_eq!(read, "reason 60: there is no file of this number");
@@ -131,7 +131,7 @@ fn a_verdict_is_its_line() {
     let accepted = canopyrail::judge(s().slices());
     assert_eq!(
         accepted.to_string(),
-        "OK 00002 00000 00000 00001 00001 00002 00002"
+        "OK 00002 00000 00000 00001 00001 00002 00002 00000"
     );
     assert_eq!(canopyrail::line(&accepted), format!("{accepted}\n"));
     let broken = canopyrail::judge(s().set(NODO, 2, 4, "000000141").slices());
@@ -177,9 +177,20 @@ fn a_break_tells_what_else_it_knows() {
             other: 2
         }
     );
+    let idle = found(s().composite("0000000009"));
+    assert_eq!(
+        idle,
+        Break {
+            reason: Reason::IdleComposite,
+            file: OB_COMP,
+            record: 1,
+            field: 0,
+            other: 0
+        }
+    );
     assert_eq!(
         canopyrail::judge(s().slices()),
-        Verdict::Accepted([2, 0, 0, 1, 1, 2, 2])
+        Verdict::Accepted([2, 0, 0, 1, 1, 2, 2, 0])
     );
 }
 
@@ -262,7 +273,7 @@ fn refusals_of_writing() {
         tried(NODO, &[Value::Number(10_000_000_000)], 50),
         Err((62, 1))
     );
-    for file in [0, 8, usize::MAX] {
+    for file in [0, FILES + 1, usize::MAX] {
         assert_eq!(tried(file, &[], 149), Err((60, 0)));
     }
     // A value of another form than its field's.
@@ -298,7 +309,7 @@ fn refusals_of_reading() {
             }
         );
     }
-    for file in [0, 8, usize::MAX] {
+    for file in [0, FILES + 1, usize::MAX] {
         assert_eq!(
             refused(file, 1),
             Refusal {

@@ -4,12 +4,12 @@ use canopyrail::{Grid, Reason, Refusal, FILES, GROUPS};
 use std::ffi::OsStr;
 use std::fs;
 
-use crate::build::{s, Files, NODO, OB_LIN, OB_PUN, TRAMO, VERTICE};
+use crate::build::{s, Files, NODO, OB_COMP, OB_LIN, OB_PUN, TRAMO, VERTICE};
 use crate::run::{flowing, grid, judge, run, Room, Run};
 
-/// The seven rows that have these counts, each with its file and group, and zeros elsewhere.
+/// The rows that have these counts, each with its file and group, and zeros elsewhere.
 fn rows(counts: &[(usize, usize, u64)]) -> String {
-    let mut rows = [["0000000000"; 5]; 7].map(|row| row.map(String::from));
+    let mut rows = [["0000000000"; 6]; 8].map(|row| row.map(String::from));
     for (file, group, count) in counts {
         rows[file - 1][group - 1] = format!("{count:010}");
     }
@@ -27,6 +27,14 @@ fn astray() -> Files {
 /// S without its nodes: neither end of its tramo is there.
 fn no_nodes() -> Files {
     s().absent(NODO)
+}
+
+/// S with its object in one composite, and two more that nothing names.
+fn ungrouped() -> Files {
+    s().set(OB_LIN, 1, 2, "0000000009")
+        .composite("0000000008")
+        .composite("0000000009")
+        .composite("0000000000")
 }
 
 #[test]
@@ -55,6 +63,8 @@ fn every_break_of_the_lowest_ten_is_counted() {
         ),
         (no_nodes(), vec![(TRAMO, 4, 2)]),
         (astray(), vec![(TRAMO, 5, 2), (NODO, 5, 2)]),
+        // the seventies are the sixth group
+        (ungrouped(), vec![(OB_COMP, 6, 2)]),
     ];
     for (files, counts) in cases {
         let room = Room::holding_all(&files);
@@ -79,10 +89,10 @@ fn every_break_of_the_lowest_ten_is_counted() {
 fn cells_that_are_not_there() {
     let grid = Grid::new([[1; GROUPS]; FILES]).unwrap();
     assert_eq!(
-        (grid.of_file(1), grid.of_group(5), grid.total()),
-        (5, 7, 35)
+        (grid.of_file(1), grid.of_group(6), grid.total()),
+        (6, 8, 48)
     );
-    for none in [0, 8, usize::MAX] {
+    for none in [0, 9, usize::MAX] {
         assert_eq!((grid.of_file(none), grid.of_group(none)), (0, 0));
         assert_eq!((grid.cell(none, 1), grid.cell(1, none)), (0, 0));
     }
@@ -90,7 +100,7 @@ fn cells_that_are_not_there() {
 
 fn of_one(count: u64) -> Result<Grid, Refusal> {
     let mut rows = [[0; GROUPS]; FILES];
-    rows[6][4] = count;
+    rows[7][5] = count;
     Grid::new(rows)
 }
 
@@ -107,7 +117,7 @@ fn sums_have_ten_digits_at_most() {
     let mut sum = of_one(most - 1).unwrap();
     let one = of_one(1).unwrap();
     assert_eq!(sum.add(&one), Ok(()));
-    assert_eq!(sum.cell(7, 5), most);
+    assert_eq!(sum.cell(8, 6), most);
     assert!(canopyrail::rows(&sum).ends_with(" 0000000000 9999999999\n"));
     let before = sum;
     assert_eq!(sum.add(&one), Err(refusal));
@@ -165,14 +175,16 @@ fn each_folder_is_warned_of() {
 #[test]
 fn in_words_files_and_groups_have_names_and_totals() {
     let (first, second) = (Room::holding(&astray()), Room::holding(&no_nodes()));
-    let page = counted(&["--words"], &[&first, &second]);
+    let third = Room::holding(&ungrouped());
+    let page = counted(&["--words"], &[&first, &second, &third]);
     assert_eq!((page.status, page.err.as_str()), (1, ""));
     assert!(page.out.is_ascii() && page.out.lines().all(|line| line.len() <= 100));
     let text = flowing(&page.out);
     for words in [
-        "shape fields keys references lines and nodes all 10-11 20-25 30 40-41 50-59 CATALOGO 0 0 0 0 0 0",
-        "OB_LIN 0 0 0 0 0 0 TRAMO 0 0 0 2 2 4 VERTICE 0 0 0 0 0 0 NODO 0 0 0 0 2 2 all 0 0 0 2 4 6",
-        "2 folders: 0 accepted, 2 refused with 6 faults.",
+        "shape fields keys references lines and nodes composites all 10-11 20-25 30 40-41 50-59 70 CATALOGO 0 0",
+        "OB_LIN 0 0 0 0 0 0 0 TRAMO 0 0 0 2 2 0 4 VERTICE 0 0 0 0 0 0 0 NODO 0 0 0 0 2 0 2",
+        "OB_COMP 0 0 0 0 0 2 2 all 0 0 0 2 4 2 8",
+        "3 folders: 0 accepted, 3 refused with 8 faults.",
         "there may be more in those behind it.",
     ] {
         assert!(text.contains(words), "no '{words}' in\n{}", page.out);

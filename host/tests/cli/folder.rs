@@ -132,8 +132,8 @@ fn check_doubt(room: &Room, line: &str, doubts: &[&str]) {
 }
 
 const NONE: &str =
-    "none of the files CATALOGO, OB_PUN, OB_TEX, OB_LIN, TRAMO, VERTICE, NODO is there";
-const EMPTY: &str = "OK 00000 00000 00000 00000 00000 00000 00000";
+    "none of the files CATALOGO, OB_PUN, OB_TEX, OB_LIN, TRAMO, VERTICE, NODO, OB_COMP is there";
+const EMPTY: &str = "OK 00000 00000 00000 00000 00000 00000 00000 00000";
 
 fn found(file: &str, names: &str) -> String {
     format!(

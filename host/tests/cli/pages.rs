@@ -4,7 +4,7 @@ use canopyrail::Reason;
 use std::fs::File;
 
 use crate::build::{
-    offset, s, Files, CATALOGO, LENGTHS, NODO, OB_LIN, OB_PUN, OB_TEX, TRAMO, VERTICE,
+    offset, s, Files, CATALOGO, LENGTHS, NODO, OB_COMP, OB_LIN, OB_PUN, OB_TEX, TRAMO, VERTICE,
 };
 use crate::run::{explain, flowing, judge, marked, Room};
 
@@ -72,7 +72,7 @@ fn accepted_deliveries_are_counted_by_name() {
     check(&[Sample {
         what: "S",
         files: s(),
-        line: "OK 00002 00000 00000 00001 00001 00002 00002",
+        line: "OK 00002 00000 00000 00001 00001 00002 00002 00000",
         says: &[
             "Accepted",
             "CATALOGO 2 records",
@@ -372,7 +372,7 @@ fn no_break_blanks() {
         Sample {
             what: "a no-break blank within a text",
             files: s().poke(OB_LIN, 1, name, b"Camino\xA0Real"),
-            line: "OK 00002 00000 00000 00001 00001 00002 00002",
+            line: "OK 00002 00000 00000 00001 00001 00002 00002 00000",
             says: &["Accepted"],
             marks: &[],
         },
@@ -438,12 +438,23 @@ fn missing_and_outside() {
             marks: &[" "],
         },
         Sample {
+            what: "24, half a centroid of a composite object",
+            files: s().composite("0000000009").set(OB_COMP, 1, 9, "00000007"),
+            line: "NO 24 8 00001 04",
+            says: &[
+                "field 4 SIGNO_X (the sign of the centroid's X)",
+                "of the centroid these are filled: CEN_Z.",
+            ],
+            marks: &[" "],
+        },
+        Sample {
             what: "25, a surface in the catalogue",
             files: s().set(CATALOGO, 2, 2, "S"),
             line: "NO 25 1 00002 02",
             says: &[
                 "CATALOGO record 2, field 2 TIPO",
-                "The field holds S; it may hold P (point), X (text)",
+                "The field holds S; it may hold P (point), X (text), L (line), T (tramo) or C \
+                 (composite).",
             ],
             marks: &["S"],
         },
@@ -499,7 +510,7 @@ fn missing_and_outside() {
         Sample {
             what: "a justification of 9",
             files: with_text("9"),
-            line: "OK 00003 00000 00001 00001 00001 00002 00002",
+            line: "OK 00003 00000 00001 00001 00001 00002 00002 00000",
             says: &["Accepted"],
             marks: &[],
         },
@@ -593,15 +604,31 @@ fn keys_and_references() {
             marks: &["0000000000"],
         },
         Sample {
-            what: "40, a composite object",
+            what: "40, a composite object, and there is no file of them",
             files: s().set(OB_LIN, 1, 2, "0000000007"),
             line: "NO 40 4 00001 02",
             says: &[
-                "field 2 ID_OCOMP",
-                "The field says 0000000007;",
-                "It must be blank.",
+                "field 2 ID_OCOMP (the composite object)",
+                "0000000007 is sought in OB_COMP, and the delivery has no file OB_COMP.",
+                "Ask Where the file OB_COMP is.",
             ],
             marks: &["0000000007"],
+        },
+        Sample {
+            what: "40, a composite object",
+            files: s().set(OB_LIN, 1, 2, "0000000001").composite("0000000009"),
+            line: "NO 40 4 00001 02",
+            says: &[
+                "0000000001 is sought in OB_COMP (1 record), field 1 ID_OCOMP, and is not there.",
+            ],
+            marks: &["0000000001"],
+        },
+        Sample {
+            what: "40, a composite object's code",
+            files: s().composite("0000000009").set(OB_COMP, 1, 2, "7"),
+            line: "NO 40 8 00001 02",
+            says: &["7 is sought in CATALOGO (3 records), field 1 CODIGO, and is not there."],
+            marks: &["7      "],
         },
         Sample {
             what: "40, the line of the tramo's own id",
@@ -666,6 +693,20 @@ fn keys_and_references() {
                 "CATALOGO record 1:",
             ],
             marks: &["0100000", "0100000", "L"],
+        },
+        Sample {
+            what: "41, in a composite object",
+            files: s().composite("0000000009").set(OB_COMP, 1, 2, "0100000"),
+            line: "NO 41 8 00001 02",
+            says: &["Code 0100000 is catalogued under L (line); OB_COMP takes C (composite)."],
+            marks: &["0100000", "0100000", "L"],
+        },
+        Sample {
+            what: "41, a composite object's code",
+            files: s().composite("0000000009").set(OB_LIN, 1, 3, "0500000"),
+            line: "NO 41 4 00001 03",
+            says: &["Code 0500000 is catalogued under C (composite); OB_LIN takes L (line)."],
+            marks: &["0500000", "0500000", "C"],
         },
     ]);
 }
@@ -803,6 +844,42 @@ fn lines_and_nodes() {
     ]);
 }
 
+#[test]
+fn composites_that_nothing_names() {
+    let named = s()
+        .set(OB_LIN, 1, 2, "0000000009")
+        .composite("0000000009")
+        .set(OB_COMP, 1, 3, "Red del norte");
+    check(&[
+        Sample {
+            what: "a composite object of a linear one",
+            files: named.clone(),
+            line: "OK 00003 00000 00000 00001 00001 00002 00002 00001",
+            says: &["Accepted", "OB_COMP 1 record"],
+            marks: &[],
+        },
+        Sample {
+            what: "70",
+            files: named.clone().set(OB_LIN, 1, 2, ""),
+            line: "NO 70 8 00001 00",
+            says: &[
+                "Where OB_COMP record 1",
+                "Composite 9 has the code 0500000 and the name \"Red del norte\".",
+                "OB_PUN (no such file), OB_TEX (no such file) and OB_LIN (1 record) do not name it \
+                 in field 2 ID_OCOMP.",
+            ],
+            marks: &["0000000009"],
+        },
+        Sample {
+            what: "70, without a name",
+            files: named.composite("0000000000"),
+            line: "NO 70 8 00002 00",
+            says: &["Composite 0 has the code 0500000 and no name."],
+            marks: &["0000000000"],
+        },
+    ]);
+}
+
 /// S with a second line from the middle of its first one, and nodes of every kind: 1 and 2 are ends,
 /// 3 is both, 4 is an end that no tramo names, 5 is intermediate, 6 is isolated.
 fn every_kind() -> Files {
@@ -846,7 +923,7 @@ fn codes_that_disagree() {
         Sample {
             what: "nodes of every kind without codes",
             files: every_kind(),
-            line: "OK 00003 00002 00000 00001 00002 00006 00006",
+            line: "OK 00003 00002 00000 00001 00002 00006 00006 00000",
             says: &["Accepted"],
             marks: &[],
         },

@@ -90,7 +90,7 @@ fn paths_that_are_no_text() {
     room.put(&s());
     assert_eq!(
         judge(&room.path).out,
-        "OK 00002 00000 00000 00001 00001 00002 00002\n"
+        "OK 00002 00000 00000 00001 00001 00002 00002 00000\n"
     );
     assert_eq!(show(&room.file(NODO), "1").status, 0);
     let missing = judge(&room.path.join(OsStr::from_bytes(b"\xFF")));
@@ -112,7 +112,7 @@ fn paths_that_are_no_text() {
         .unwrap();
     assert_eq!(
         output.stdout,
-        b"OK 00000 00000 00000 00000 00000 00000 00000\n"
+        b"OK 00000 00000 00000 00000 00000 00000 00000 00000\n"
     );
 }
 

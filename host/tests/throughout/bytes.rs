@@ -1,4 +1,5 @@
-//! Deliveries in which every file breaks one rule of 10 and 11, or every record one of 20 to 25 in each field that can.
+//! Deliveries in which every file breaks one rule of 10 and 11, or every record one of 20 to 25 in each field that can. A file that is
+//! empty stays so.
 
 use super::Case;
 use deliveries::{field_start, fields, Field, Files, Form, RECORD};
@@ -6,11 +7,11 @@ use deliveries::{field_start, fields, Field, Files, Form, RECORD};
 pub const ILL_FORMED: [Case<Files>; 10] = [
     ("10, a record too many", "NO 10 1 00000 00", |files| {
         for (bytes, length) in files.iter_mut().zip(RECORD) {
-            bytes.extend_from_within(..length);
+            bytes.extend_from_within(..length.min(bytes.len()));
         }
     }),
     ("10 and 11, a byte too many", "NO 10 1 00000 00", |files| {
-        for bytes in files {
+        for bytes in files.iter_mut().filter(|bytes| !bytes.is_empty()) {
             bytes.push(b'\n');
         }
     }),

@@ -141,7 +141,7 @@ pub const MISTYPED: [Case; 2] = [
 ];
 
 /// Ids that aren't taken, each once.
-fn strange_ids(taken: BTreeSet<u64>) -> impl Iterator<Item = u64> {
+pub fn strange_ids(taken: BTreeSet<u64>) -> impl Iterator<Item = u64> {
     (5_000_000_000..).filter(move |id| !taken.contains(id))
 }
 
@@ -150,7 +150,7 @@ fn strange_nodes(nodes: &[Nodo]) -> impl Iterator<Item = u64> {
 }
 
 /// Codes that the catalogue has not, each once.
-fn strange_codes(catalogue: &[Catalogo]) -> impl Iterator<Item = Vec<u8>> {
+pub fn strange_codes(catalogue: &[Catalogo]) -> impl Iterator<Item = Vec<u8>> {
     let taken: BTreeSet<Vec<u8>> = catalogue
         .iter()
         .map(|record| record.codigo.clone())

@@ -1,9 +1,11 @@
 //! Deliveries that break a rule in every record, or in as many as the rule allows, each made of a lawful one.
 
 mod bytes;
+mod composites;
 mod keys;
 mod topology;
 
+pub use composites::UNGROUPED;
 pub use keys::{MISTYPED, REPEATED, UNKNOWN};
 pub use topology::ASTRAY;
 
@@ -41,18 +43,29 @@ fn in_turn(model: &mut Model, cases: &[Case], reasons: &[&str]) {
 /// What is broken, the line that is due, and the files.
 pub type Broken = (&'static str, &'static str, Files);
 
-/// Every rule's deliveries, one at a time.
+/// Every rule's deliveries that take no composites, one at a time.
 pub fn all(lawful: &Model) -> impl Iterator<Item = Broken> + '_ {
     let groups: [&[Case]; 5] = [&REPEATED, &UNKNOWN, &MISTYPED, &ASTRAY, &AT_ONCE];
-    let values = groups.concat().into_iter().map(move |(name, due, change)| {
+    by_bytes(lawful).chain(by_values(lawful, groups.concat()))
+}
+
+/// Those that take a lawful delivery with composites.
+pub fn all_composed(lawful: &Model) -> impl Iterator<Item = Broken> + '_ {
+    by_bytes(lawful).chain(by_values(lawful, UNGROUPED.to_vec()))
+}
+
+fn by_values(lawful: &Model, cases: Vec<Case>) -> impl Iterator<Item = Broken> + '_ {
+    cases.into_iter().map(move |(name, due, change)| {
         let mut model = lawful.clone();
         change(&mut model);
         (name, due, write(&model))
-    });
-    let bytes = ILL_FORMED.iter().map(move |(name, due, change)| {
+    })
+}
+
+fn by_bytes(lawful: &Model) -> impl Iterator<Item = Broken> + '_ {
+    ILL_FORMED.iter().map(move |(name, due, change)| {
         let mut files = write(lawful);
         change(&mut files);
         (*name, *due, files)
-    });
-    bytes.chain(values)
+    })
 }

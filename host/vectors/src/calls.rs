@@ -1,5 +1,5 @@
 //! What crates/writes should print: the writing call's cases of document 01,
-//! "Single-record calls add", with those of W-202 and W-203, and three of the
+//! "Single-record calls add", with those of W-202 to W-204, and some of the
 //! reading call's, answered by the independent codec. The program states the
 //! same cases in the same order.
 
@@ -100,9 +100,9 @@ fn files() -> Vec<Case> {
     let plain = || node(100, 200);
     vec![
         case("file 0", 0, plain()),
-        case("file 8", 8, plain()),
+        case("file 9", 9, plain()),
         show("file 7", 7, plain()),
-        within(0, case("file 8 room of 0", 8, plain())),
+        within(0, case("file 9 room of 0", 9, plain())),
         within(49, case("room of 49", 7, plain())),
         within(49, case("room of 49 id missing", 7, no(plain(), 1))),
         within(50, case("room of 50", 7, plain())),
@@ -176,6 +176,8 @@ fn catalogue() -> Vec<Case> {
         show("catalogue TIPO T", 1, catalogued(b"T")),
         case("catalogue TIPO A0", 1, catalogued(b"\xA0")),
         case("catalogue TIPO A1", 1, catalogued(b"\xA1")),
+        show("catalogue TIPO C", 1, catalogued(b"C")),
+        case("catalogue TIPO S", 1, catalogued(b"S")),
     ]
 }
 
@@ -231,6 +233,49 @@ fn points() -> Vec<Case> {
     ]
 }
 
+fn composite(code: &[u8], name: &[u8]) -> Values {
+    text(text(number(none(), 1, 1), 2, code), 3, name)
+}
+
+fn composites() -> Vec<Case> {
+    let plain = || composite(b"0500000", b"a");
+    let x = || coordinate(plain(), 5, 100);
+    let wide = || number(plain(), 1, 10_000_000_000);
+    vec![
+        show("composite", 8, plain()),
+        case("composite id missing", 8, no(plain(), 1)),
+        case("composite id 10000000000", 8, wide()),
+        case("composite code missing", 8, composite(b"", b"a")),
+        case("composite code NA", 8, composite(b"NA", b"a")),
+        case("composite code of 8", 8, composite(b"05000000", b"a")),
+        show("composite name missing", 8, composite(b"0500000", b"")),
+        case(
+            "composite name blank first",
+            8,
+            composite(b"0500000", b" a"),
+        ),
+        case("composite name A0 last", 8, composite(b"0500000", b"a\xA0")),
+        case("composite only X", 8, x()),
+        case("composite only Y", 8, coordinate(plain(), 7, 200)),
+        case("composite only Z", 8, coordinate(plain(), 9, 5)),
+        case("composite X and Z", 8, coordinate(x(), 9, 5)),
+        show("composite X and Y", 8, coordinate(x(), 7, -200)),
+        show(
+            "composite X, Y and Z",
+            8,
+            coordinate(coordinate(x(), 7, 200), 9, 0),
+        ),
+        case(
+            "composite wide Y no X",
+            8,
+            coordinate(plain(), 7, 10_000_000_000),
+        ),
+        case("composite wide Y", 8, coordinate(x(), 7, 10_000_000_000)),
+        within(116, case("composite room of 116", 8, plain())),
+        within(117, case("composite room of 117", 8, plain())),
+    ]
+}
+
 fn refusal(Refusal { reason, field }: Refusal) -> Vec<u8> {
     format!(" NO {reason:02} {field:02}").into_bytes()
 }
@@ -269,12 +314,63 @@ fn written(case: &Case) -> Vec<u8> {
     }
 }
 
-/// A node's file of one record, read.
-fn reading(n: usize) -> Vec<u8> {
-    let bytes = b"0000000001| |+|000000100|+|0000000200| |        \r\n";
-    let answer = read(7, bytes, n).map_or_else(refusal, |_| b" OK".to_vec());
-    let label = format!("read record {n}").into_bytes();
-    [label, answer, b"\n".to_vec()].concat()
+/// The line of a record that is read.
+fn reading(label: &str, file: usize, bytes: &[u8], n: usize) -> Vec<u8> {
+    let answer = read(file, bytes, n).map_or_else(refusal, |_| b" OK".to_vec());
+    [label.as_bytes(), &answer, b"\n"].concat()
+}
+
+fn nodes_read() -> Vec<Vec<u8>> {
+    let node = b"0000000001| |+|000000100|+|0000000200| |        \r\n";
+    vec![
+        reading("read record 0", 7, node, 0),
+        reading("read record 2", 7, node, 2),
+        reading("read record 1", 7, node, 1),
+    ]
+}
+
+/// A composite's record, its first cells and its name as they are given.
+fn composite_record(cells: [&str; 3], centroid: &str, end: &str) -> Vec<u8> {
+    let [id, code, name] = cells;
+    format!("{id}|{code}|{name:60}|{centroid}{end}").into_bytes()
+}
+
+fn composites_read() -> Vec<Vec<u8>> {
+    let (id, code, name) = ("0000000001", "0500000", "a");
+    let none = " |         | |          | |        ";
+    let lawful = composite_record([id, code, name], none, "\r\n");
+    let with = |cells, centroid| composite_record(cells, centroid, "\r\n");
+    let of_composite = |label, bytes: &[u8]| reading(label, 8, bytes, 1);
+    vec![
+        reading("read file 9", 9, &lawful, 1),
+        reading("read composite 0", 8, &lawful, 0),
+        reading("read composite 2", 8, &lawful, 2),
+        reading("read composite of 116", 8, &lawful[..116], 1),
+        of_composite("read composite", &lawful),
+        of_composite(
+            "read composite end",
+            &composite_record([id, code, name], none, "\n\r"),
+        ),
+        of_composite(
+            "read composite bar",
+            &with([id, code, name], " ,         | |          | |        "),
+        ),
+        of_composite("read composite id", &with(["         1", code, name], none)),
+        of_composite("read composite name", &with([id, code, " a"], none)),
+        of_composite("read composite code ND", &with([id, "ND     ", name], none)),
+        of_composite(
+            "read composite only Z",
+            &with([id, code, name], " |         | |          |+|00000005"),
+        ),
+        of_composite(
+            "read composite minus zero",
+            &with([id, code, name], "+|000000001|-|0000000000| |        "),
+        ),
+        of_composite(
+            "read composite X and Y",
+            &with([id, code, name], "+|000000001|-|0000000002| |        "),
+        ),
+    ]
 }
 
 /// All lines, in the program's order.
@@ -290,8 +386,9 @@ pub fn calls() -> Vec<u8> {
         vertices(),
         texts(),
         points(),
+        composites(),
     ];
     let written = cases.iter().flatten().map(written);
-    let read = [0, 2, 1].into_iter().map(reading);
+    let read = nodes_read().into_iter().chain(composites_read());
     written.chain(read).flatten().collect()
 }

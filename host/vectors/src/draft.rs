@@ -1,15 +1,15 @@
 //! A delivery made by hand: records from rows of cells, and ways to damage
 //! them. Records and fields are counted from 1, as a verdict's line does.
 
-use deliveries::{fields, Files, Form};
+use deliveries::{fields, Files, Form, FILES};
 
 /// Rows of a delivery: a file and the cells of a record.
 pub(crate) type Rows = [(usize, &'static str)];
 
-/// Seven lists of records.
+/// A list of records for each file.
 #[derive(Clone, Default)]
 pub(crate) struct Draft {
-    pub records: [Vec<Vec<u8>>; 7],
+    pub records: [Vec<Vec<u8>>; FILES],
 }
 
 impl Draft {

@@ -15,7 +15,7 @@ mod stated;
 pub use seeded::seeded;
 pub use stated::{stated, Stated};
 
-use deliveries::{Files, NAMES};
+use deliveries::{Files, FILES, NAMES};
 use std::path::{Path, PathBuf};
 
 /// A file below the repository's root, and what it should hold.
@@ -31,12 +31,12 @@ pub fn line(files: &Files) -> String {
 
 /// The independent checker's grid, a row a file, each with its line feed.
 pub fn grid(files: &Files) -> String {
-    let row = |counts: [u64; 5]| counts.map(|count| format!("{count:010}")).join(" ");
-    let rows = independent::grid(lent(files)).map(row);
+    let rows = independent::grid(lent(files))
+        .map(|counts| counts.map(|count| format!("{count:010}")).join(" "));
     format!("{}\n", rows.join("\n"))
 }
 
-fn lent(files: &Files) -> [&[u8]; 7] {
+fn lent(files: &Files) -> [&[u8]; FILES] {
     std::array::from_fn(|file| files[file].as_slice())
 }
 
@@ -58,8 +58,8 @@ pub fn vectors() -> [Stored; 3] {
     ]
 }
 
-/// A delivery as the program reads it: a line with the seven lengths, then the
-/// seven files' bytes.
+/// A delivery as the program reads it: a line with the files' lengths, then
+/// their bytes.
 fn packed(files: &Files) -> Vec<u8> {
     let lengths: Vec<String> = files.iter().map(|file| file.len().to_string()).collect();
     let mut bytes = lengths.join(" ").into_bytes();

@@ -3,11 +3,13 @@
 use deliveries::{damage, damaged, lawful, write, Aim, Files, Outcome, Random, Size, AIMS, RECORD};
 
 /// No delivery drawn for an aim is longer, so that many fit the program's room;
-/// some aims find no place in a shorter one.
-const MOST_AIMED: usize = 1_900;
+/// some aims find no place in a shorter one, and one wants a line of ten
+/// vertices.
+const MOST_AIMED: usize = 1_500;
+const MOST_AS_TEXT: usize = 2_150;
 
 /// No other delivery drawn is longer.
-const MOST_OTHER: usize = 1_300;
+const MOST_OTHER: usize = 1_000;
 
 /// Each aim by itself, those that break a rule more often; lawful deliveries;
 /// several damages at once; bytes of no sense. The aims that make a file of
@@ -21,13 +23,17 @@ pub fn seeded() -> Vec<Files> {
             Outcome::Broken(_) => 2,
             Outcome::Lawful | Outcome::Open => 1,
         };
-        all.extend(drawn(1_000 * place, many, MOST_AIMED, |random| {
+        let most = match aim {
+            Aim::OrderAsText => MOST_AS_TEXT,
+            _ => MOST_AIMED,
+        };
+        all.extend(drawn(1_000 * place, many, most, |random| {
             aimed(random, aim)
         }));
     }
     let a_lawful_one = |random: &mut Random| write(&lawful(random, Size::UpTo(8)));
-    all.extend(drawn(0, 40, MOST_OTHER, a_lawful_one));
-    all.extend(drawn(0, 30, MOST_OTHER, |random| damaged(random).0));
+    all.extend(drawn(0, 30, MOST_OTHER, a_lawful_one));
+    all.extend(drawn(0, 25, MOST_OTHER, |random| damaged(random).0));
     all.extend(drawn(0, 10, MOST_OTHER, senseless));
     all
 }

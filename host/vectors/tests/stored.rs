@@ -69,7 +69,7 @@ type Counts = [(usize, usize, u64)];
 
 /// Zeros but for these counts.
 fn rows(counts: &Counts) -> String {
-    let mut rows = [["0000000000"; 5]; 7].map(|row| row.map(String::from));
+    let mut rows = [["0000000000"; 6]; 8].map(|row| row.map(String::from));
     for (file, group, count) in counts {
         rows[file - 1][group - 1] = format!("{count:010}");
     }
@@ -80,7 +80,7 @@ fn rows(counts: &Counts) -> String {
 #[test]
 fn the_independent_checker_counts_what_was_stated_by_hand() {
     let of_name: BTreeMap<_, _> = stated().into_iter().map(|s| (s.name, s.files)).collect();
-    let grids: [(&str, &Counts); 18] = [
+    let grids: [(&str, &Counts); 28] = [
         ("rich", &[]),
         ("r11-lowest-of-two-files", &[(2, 1, 1), (4, 1, 1)]),
         ("r20-lowest-file-first", &[(2, 2, 1), (3, 2, 1)]),
@@ -111,6 +111,21 @@ fn the_independent_checker_counts_what_was_stated_by_hand() {
         ("r52-counted-from-0", &[(5, 5, 1), (6, 5, 2), (7, 5, 1)]),
         // nodes 3 and 4
         ("ejemplo-10-5-nodos", &[(7, 5, 2)]),
+        ("ok-composites", &[]),
+        ("r24-composite-z-alone", &[(8, 2, 4)]),
+        ("r30-composite-0-three-times", &[(8, 3, 2)]),
+        (
+            "r40-all-composites-lost",
+            &[(2, 4, 2), (3, 4, 2), (4, 4, 2)],
+        ),
+        ("r41-catalogue-c-changed-to-l", &[(8, 4, 2)]),
+        ("r41-before-40-of-a-later-composite", &[(8, 4, 2)]),
+        // the seventies are the sixth group
+        ("r70-members-lost", &[(8, 6, 1)]),
+        ("r70-two-of-four", &[(8, 6, 2)]),
+        ("r70-no-object-names-any", &[(8, 6, 2)]),
+        // four composites besides, which nobody counts yet
+        ("r58-before-70", &[(7, 5, 1)]),
     ];
     for (name, counts) in grids {
         assert_eq!(vectors::grid(&of_name[name]), rows(counts), "{name}");
@@ -125,7 +140,11 @@ fn records_are_written_as_the_documents_print_them() {
     assert!(files("s")[6].starts_with(node));
     // source 000's example 10.2 has its files' sizes in its metadata (lines 3154 to 3201)
     let sizes = files("ejemplo-10-2").map(|bytes| bytes.len());
-    assert_eq!(sizes, [931, 298, 144, 512, 462, 864, 300]);
+    assert_eq!(sizes, [931, 298, 144, 512, 462, 864, 300, 0]);
+    // example 10.3 that of its composite (line 3532)
+    let lake = &files("ejemplo-10-3-compuesto")[7];
+    assert_eq!(lake.len(), 117);
+    assert!(lake.starts_with(b"0000000001|0300100|Lago Mayor "));
 }
 
 #[test]
@@ -134,7 +153,7 @@ fn every_reason_comes_up_and_all_fits_the_programs_room() {
     let told = |start: &str| lines.iter().filter(|line| line.starts_with(start)).count();
     // 59 can't come first: the reference to a line without a vertex is 40
     for reason in [
-        10, 11, 20, 21, 22, 23, 24, 25, 30, 40, 41, 50, 51, 52, 53, 54, 55, 56, 57, 58,
+        10, 11, 20, 21, 22, 23, 24, 25, 30, 40, 41, 50, 51, 52, 53, 54, 55, 56, 57, 58, 70,
     ] {
         assert!(
             told(&format!("NO {reason}")) > 0,

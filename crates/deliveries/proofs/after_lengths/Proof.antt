@@ -2,14 +2,15 @@
 -- Assumes nothing.
 use Prim.Native.Nat.{_+_, _*_, _-_, _≤_}
 use borrow.Author.Needs.{needs}
+use Rattle.record.specs.Table.{fileCount}
 use Rattle.deliveries.proofs.after_lengths.Statement.{statement}
 use Rattle.deliveries.proofs.after_lengths.Tie as tie
 
 abbrev Inv-loop : tie.InvT-loop
-Inv-loop s at next₀ n₀ next n = (n ≤ 7) × (at + n ≤ next) × (next ≤ at + 8 * n)
+Inv-loop s at next₀ n₀ next n = (n ≤ fileCount) × (at + n ≤ next) × (next ≤ at + 8 * n)
 
 abbrev μ-loop : tie.MeasureT-loop
-μ-loop s at next₀ n₀ next n = 7 - n
+μ-loop s at next₀ n₀ next n = fileCount - n
 
 loop-holds : tie.Need-loop-holds Inv-loop μ-loop
 loop-holds c = search needs

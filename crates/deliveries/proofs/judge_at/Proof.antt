@@ -4,14 +4,15 @@ use Prim.Native.Nat.{_+_, _*_, _-_, _^_, _<_, _≤_}
 use mathlib.Core.Path.{_≡_}
 use lib.ListN.{length}
 use borrow.Author.Needs.{needs}
+use Rattle.record.specs.Table.{fileCount}
 use Rattle.deliveries.proofs.judge_at.Statement.{statement}
 use Rattle.deliveries.proofs.judge_at.Tie as tie
 
 abbrev Inv-loop : tie.InvT-loop
-Inv-loop s at from₀ files₀ next₀ n₀ from files next n = (n ≤ 7) × (length files ≡ 7) × (next ≤ at + 8 * n) × (at < from) × (from ≤ at + 8 * 7 + 10 ^ 8 * n)
+Inv-loop s at from₀ files₀ next₀ n₀ from files next n = (n ≤ fileCount) × (length files ≡ fileCount) × (next ≤ at + 8 * n) × (at < from) × (from ≤ at + 8 * fileCount + 10 ^ 8 * n)
 
 abbrev μ-loop : tie.MeasureT-loop
-μ-loop s at from₀ files₀ next₀ n₀ from files next n = 7 - n
+μ-loop s at from₀ files₀ next₀ n₀ from files next n = fileCount - n
 
 after-lengths-requires : tie.Need-after-lengths-requires Inv-loop μ-loop
 after-lengths-requires c κs = search needs

@@ -19,7 +19,7 @@ pub enum Aim {
     MinusZero,
     // Reasons 30 to 41.
     DoubledKey,
-    CompositeGiven,
+    UnknownComposite,
     PerimeterGiven,
     UnknownCode,
     UnknownNode,
@@ -38,6 +38,8 @@ pub enum Aim {
     IdleNode,
     IdleLinear,
     OtherKind,
+    // Reason 70.
+    IdleComposite,
     // Mistakes of a converter.
     OrderAsText,
     OrderByPlace,
@@ -60,6 +62,8 @@ pub enum Aim {
     VertexAdded,
     MinusBeforeNonzero,
     Mirrored,
+    CompositeAdded,
+    ObjectMoves,
     RenamedId,
     UnusedCode,
     NodeType,
@@ -86,6 +90,7 @@ pub enum Aim {
     MixedRecord,
     MixedOrders,
     MixedTramo,
+    MixedComposites,
 }
 
 /// What a damage works on. Damage to the values writes all files anew, and so
@@ -128,7 +133,7 @@ const TABLE: &[Row] = &[
     (Aim::OutsideDomain, Bytes, Broken(25), "a type, sign, sense, orientation or justification outside its domain"),
     (Aim::MinusZero, Bytes, Broken(25), "- before zero"),
     (Aim::DoubledKey, Values, Broken(30), "two records of a file with one key"),
-    (Aim::CompositeGiven, Values, Broken(40), "a composite id, which has no file"),
+    (Aim::UnknownComposite, Values, Broken(40), "an object naming no composite"),
     (Aim::PerimeterGiven, Values, Broken(40), "a perimeter id, which has no file"),
     (Aim::UnknownCode, Values, Broken(40), "a code that isn't catalogued"),
     (Aim::UnknownNode, Values, Broken(40), "a point object or tramo naming no node"),
@@ -146,6 +151,7 @@ const TABLE: &[Row] = &[
     (Aim::IdleNode, Values, Broken(56), "a node that nothing holds, or one point object alone"),
     (Aim::IdleLinear, Values, Broken(57), "a linear object that no tramo names"),
     (Aim::OtherKind, Values, Broken(58), "a node whose TIPO is not that of what it is"),
+    (Aim::IdleComposite, Values, Broken(70), "a composite that no object names"),
     (Aim::OrderAsText, Values, Broken(53), "a line renumbered after its orders were sorted as unpadded text"),
     (Aim::OrderByPlace, Values, Open, "a line renumbered by place in the file"),
     (Aim::TurnedSense, Values, Broken(52), "a tramo's nodes changed over under sense -"),
@@ -166,6 +172,8 @@ const TABLE: &[Row] = &[
     (Aim::VertexAdded, Values, Lawful, "a middle vertex added, the rest renumbered"),
     (Aim::MinusBeforeNonzero, Values, Lawful, "a free position or centroid below zero"),
     (Aim::Mirrored, Values, Lawful, "all X, all Y or all Z with the other sign"),
+    (Aim::CompositeAdded, Values, Lawful, "a further composite that an object names"),
+    (Aim::ObjectMoves, Values, Lawful, "an object of another composite or of none, its own named by others"),
     (Aim::RenamedId, Values, Lawful, "an id changed everywhere"),
     (Aim::UnusedCode, Values, Lawful, "a further code that nothing uses"),
     (Aim::NodeType, Values, Lawful, "another TIPO of a node that agrees with what it is"),
@@ -176,7 +184,7 @@ const TABLE: &[Row] = &[
     (Aim::FreeWords, Values, Lawful, "other words in all free texts"),
     (Aim::RecordsSwapped, Bytes, Lawful, "two records of a file changed over"),
     (Aim::Reshuffled, Values, Lawful, "all records in another order"),
-    (Aim::AllEmpty, Values, Lawful, "seven empty files"),
+    (Aim::AllEmpty, Values, Lawful, "all files empty"),
     (Aim::ChangedByte, Bytes, Open, "any byte changed to any other"),
     (Aim::NastyByte, Bytes, Open, "any byte changed to a telling one"),
     (Aim::ByteInserted, Bytes, Broken(11), "a byte inserted"),
@@ -191,6 +199,7 @@ const TABLE: &[Row] = &[
     (Aim::MixedRecord, Bytes, Open, "many fields of a record blanked, filled or damaged"),
     (Aim::MixedOrders, Values, Open, "a line's orders drawn anew from 0 on"),
     (Aim::MixedTramo, Values, Open, "a tramo's references drawn anew"),
+    (Aim::MixedComposites, Values, Open, "all objects' composites drawn anew"),
 ];
 
 /// Every aim there is.

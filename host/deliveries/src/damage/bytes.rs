@@ -3,7 +3,7 @@
 use std::ops::Range;
 
 use super::{strike, ByteStep};
-use crate::layout::{field_start, fields, Domain, Field, Form, OB_LIN, RECORD};
+use crate::layout::{field_start, fields, Domain, Field, Form, FILES, OB_COMP, OB_LIN, RECORD};
 use crate::model::Files;
 use crate::random::Random;
 use crate::values::NO_BREAK;
@@ -21,14 +21,14 @@ fn records(files: &Files, file: usize) -> usize {
 /// Any file with so many whole records at least.
 fn file_with(random: &mut Random, files: &Files, least: usize) -> Option<usize> {
     random.one_of(
-        (0..7)
+        (0..FILES)
             .filter(|&file| records(files, file) >= least)
             .collect(),
     )
 }
 
 fn file_with_bytes(random: &mut Random, files: &Files) -> Option<usize> {
-    random.one_of((0..7).filter(|&file| !files[file].is_empty()).collect())
+    random.one_of((0..FILES).filter(|&file| !files[file].is_empty()).collect())
 }
 
 fn record_range(file: usize, record: usize) -> Range<usize> {
@@ -49,7 +49,7 @@ struct Spot {
 /// Any field of the wanted sort; the file is drawn first, so that short
 /// records aren't struck less.
 fn spot(random: &mut Random, files: &Files, wanted: fn(&Field) -> bool) -> Option<Spot> {
-    let with_field = (0..7)
+    let with_field = (0..FILES)
         .filter(|&file| records(files, file) > 0 && fields(file).iter().any(wanted))
         .collect();
     let file = random.one_of(with_field)?;
@@ -96,7 +96,7 @@ struct Pair {
 /// Any pair that is as asked; the file is drawn first here too.
 fn pair(random: &mut Random, files: &Files, wanted: fn(&Pair, &Files) -> bool) -> Option<Pair> {
     let mut by_file = Vec::new();
-    for file in 0..7 {
+    for file in 0..FILES {
         let mut pairs: Vec<Pair> = (0..records(files, file))
             .flat_map(|record| pairs_of(file, record))
             .collect();
@@ -148,7 +148,7 @@ pub fn lengthen(random: &mut Random, bytes: &mut Vec<u8>, file: usize) {
 
 pub const RAGGED_END: &[ByteStep] = &[
     |random, files| {
-        let file = random.index(7);
+        let file = random.index(FILES);
         let part = 1 + random.index(RECORD[file] - 1);
         let tail = match random.below(5) {
             0 => b"\n".to_vec(),
@@ -385,8 +385,9 @@ pub const MISSING_PARTNER: &[ByteStep] = &[
 
 /// The centroids whose X and Y are both as asked, as three pairs each.
 fn centroids(files: &Files, wanted: fn(&Pair, &Files) -> bool) -> Vec<Vec<Pair>> {
-    (0..records(files, OB_LIN))
-        .map(|record| pairs_of(OB_LIN, record))
+    [OB_LIN, OB_COMP]
+        .into_iter()
+        .flat_map(|file| (0..records(files, file)).map(move |record| pairs_of(file, record)))
         .filter(|pairs| wanted(&pairs[0], files) && wanted(&pairs[1], files))
         .collect()
 }
@@ -407,8 +408,8 @@ fn outside(random: &mut Random, field: &Field) -> Vec<u8> {
         Domain::Angle => return outside_angle(random),
         Domain::OneOf(bytes) => bytes,
     };
-    // C and S are types of MIGRA that the base doesn't take, small letters
-    // are no types at all. A0 would be damage, and no value.
+    // S is a type of MIGRA that has no file here, small letters are no types
+    // at all. A0 would be damage, and no value.
     let mut bytes = match field.form {
         Form::N => b"0".to_vec(),
         Form::A => b"CSplxtaceih*0~|._\xA1\xB1\xD7PXLTAEIH+-".to_vec(),
@@ -491,7 +492,7 @@ pub const NASTY_BYTE: &[ByteStep] = &[|random, files| {
 }];
 
 pub const BYTE_INSERTED: &[ByteStep] = &[|random, files| {
-    let file = random.index(7);
+    let file = random.index(FILES);
     let place = random.index(files[file].len() + 1);
     files[file].insert(place, random.pick(NASTY));
     true
@@ -524,7 +525,7 @@ pub const TRUNCATED: &[ByteStep] = &[
 
 pub const FILES_SWAPPED: &[ByteStep] = &[|random, files| {
     let mut pairs = Vec::new();
-    for one in 0..7 {
+    for one in 0..FILES {
         for other in 0..one {
             if files[one] != files[other] {
                 pairs.push((one, other));
@@ -539,21 +540,21 @@ pub const FILE_EMPTIED: &[ByteStep] =
 
 pub const RANDOM_FILE: &[ByteStep] = &[
     |random, files| {
-        let file = random.index(7);
+        let file = random.index(FILES);
         let length = 1 + random.index(400);
         files[file] = (0..length).map(|_| random.below(256) as u8).collect();
         true
     },
     // Of whole records, so that something beyond the length is read.
     |random, files| {
-        let file = random.index(7);
+        let file = random.index(FILES);
         let length = RECORD[file] * (1 + random.index(3));
         files[file] = (0..length).map(|_| random.pick(NASTY)).collect();
         true
     },
     // With bars and record ends in place.
     |random, files| {
-        let file = random.index(7);
+        let file = random.index(FILES);
         let mut bytes = Vec::new();
         for _ in 0..1 + random.index(3) {
             for field in fields(file) {

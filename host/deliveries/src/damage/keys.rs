@@ -48,6 +48,11 @@ pub const DOUBLED_KEY: &[ValueStep] = &[
     },
     |random, model| double(random, &mut model.vertice, give_line_and_order),
     |random, model| double(random, &mut model.nodo, |key, to| to.id_nodo = key.id_nodo),
+    |random, model| {
+        double(random, &mut model.ob_comp, |key, to| {
+            to.id_ocomp = key.id_ocomp
+        })
+    },
 ];
 
 /// Gives a record's key to another one, or to a copy of itself.
@@ -72,23 +77,6 @@ fn give_line_and_order(key: Vertice, to: &mut Vertice) {
 }
 
 // Reason 40.
-
-pub const COMPOSITE_GIVEN: &[ValueStep] = &[
-    |random, model| {
-        let id = given_id(random, model);
-        change(random, &mut model.ob_pun, |point| point.id_ocomp = Some(id))
-    },
-    |random, model| {
-        let id = given_id(random, model);
-        change(random, &mut model.ob_tex, |text| text.id_ocomp = Some(id))
-    },
-    |random, model| {
-        let id = given_id(random, model);
-        change(random, &mut model.ob_lin, |linear| {
-            linear.id_ocomp = Some(id)
-        })
-    },
-];
 
 pub const PERIMETER_GIVEN: &[ValueStep] = &[|random, model| {
     let id = given_id(random, model);
@@ -124,6 +112,12 @@ pub const UNKNOWN_CODE: &[ValueStep] = &[
     |random, model| {
         let taken = codes(model);
         spoil_code(random, &mut model.tramo, &taken, |tramo| &mut tramo.codigo)
+    },
+    |random, model| {
+        let taken = codes(model);
+        spoil_code(random, &mut model.ob_comp, &taken, |composite| {
+            &mut composite.codigo
+        })
     },
     used_code_removed,
 ];
@@ -317,6 +311,15 @@ pub const CODE_OF_OTHER_TYPE: &[ValueStep] = &[
         !model.tramo.is_empty()
             && strike(code, |code| {
                 change(random, &mut model.tramo, |tramo| tramo.codigo = code);
+            })
+    },
+    |random, model| {
+        let code = code_not_of(random, model, b'C');
+        !model.ob_comp.is_empty()
+            && strike(code, |code| {
+                change(random, &mut model.ob_comp, |composite| {
+                    composite.codigo = code
+                });
             })
     },
     catalogued_type_changed,

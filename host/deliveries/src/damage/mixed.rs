@@ -3,7 +3,7 @@
 use std::collections::BTreeSet;
 
 use super::{strike, ValueStep};
-use crate::graft::{line_ids, linear_ids, node_ids};
+use crate::graft::{composite_ids, line_ids, linear_ids, node_ids};
 use crate::model::{Model, Tramo};
 use crate::random::Random;
 use crate::values::fresh_id;
@@ -43,6 +43,27 @@ fn redraw(random: &mut Random, model: &Model, tramo: &Tramo) -> Tramo {
         ..tramo.clone()
     }
 }
+
+/// Where all that are named are there, some composites are left without a
+/// member, several at once.
+pub const MIXED_COMPOSITES: &[ValueStep] = &[|random, model| {
+    let known: Vec<u64> = composite_ids(model).into_iter().collect();
+    let before = model.clone();
+    if known.is_empty() || model.memberships().is_empty() {
+        return false;
+    }
+    while *model == before {
+        let one = random.pick(&known);
+        for member in model.memberships() {
+            *member = match random.below(3) {
+                0 => None,
+                1 => Some(one),
+                _ => Some(random.pick(&known)),
+            };
+        }
+    }
+    true
+}];
 
 fn known_or_fresh(random: &mut Random, known: &BTreeSet<u64>) -> u64 {
     if random.chance(1, 8) {

@@ -6,6 +6,7 @@
 
 mod aims;
 mod bytes;
+mod composites;
 mod keys;
 mod mistakes;
 mod mixed;
@@ -17,6 +18,7 @@ pub use aims::{Aim, Layer, Outcome, AIMS};
 use crate::full::MOST_RECORDS;
 use crate::graft::{fill, graft};
 use crate::lawful::{lawful, Size};
+use crate::layout::FILES;
 use crate::model::{write, Files, Model};
 use crate::random::Random;
 
@@ -59,7 +61,7 @@ fn damage_values(random: &mut Random, model: &mut Model, aim: Aim) {
     match aim {
         Aim::AllEmpty => *model = Model::default(),
         Aim::AtTheLimit => {
-            let file = random.index(7);
+            let file = random.index(FILES);
             fill(random, model, file, MOST_RECORDS);
         }
         _ => {
@@ -75,7 +77,7 @@ fn damage_values(random: &mut Random, model: &mut Model, aim: Aim) {
 
 fn damage_bytes(random: &mut Random, model: &mut Model, files: &mut Files, aim: Aim) {
     if aim == Aim::TooLong {
-        let file = random.index(7);
+        let file = random.index(FILES);
         fill(random, model, file, MOST_RECORDS);
         *files = write(model);
         bytes::lengthen(random, &mut files[file], file);
@@ -130,7 +132,7 @@ fn any_byte_step(random: &mut Random, files: &mut Files, steps: &[ByteStep]) -> 
 pub(crate) fn value_steps(aim: Aim) -> &'static [ValueStep] {
     match aim {
         Aim::DoubledKey => keys::DOUBLED_KEY,
-        Aim::CompositeGiven => keys::COMPOSITE_GIVEN,
+        Aim::UnknownComposite => composites::UNKNOWN_COMPOSITE,
         Aim::PerimeterGiven => keys::PERIMETER_GIVEN,
         Aim::UnknownCode => keys::UNKNOWN_CODE,
         Aim::UnknownNode => keys::UNKNOWN_NODE,
@@ -148,6 +150,7 @@ pub(crate) fn value_steps(aim: Aim) -> &'static [ValueStep] {
         Aim::IdleNode => topology::IDLE_NODE,
         Aim::IdleLinear => topology::IDLE_LINEAR,
         Aim::OtherKind => topology::OTHER_KIND,
+        Aim::IdleComposite => composites::IDLE_COMPOSITE,
         Aim::OrderAsText => mistakes::ORDER_AS_TEXT,
         Aim::OrderByPlace => mistakes::ORDER_BY_PLACE,
         Aim::TurnedSense => mistakes::TURNED_SENSE,
@@ -167,6 +170,8 @@ pub(crate) fn value_steps(aim: Aim) -> &'static [ValueStep] {
         Aim::VertexAdded => near::VERTEX_ADDED,
         Aim::MinusBeforeNonzero => near::MINUS_BEFORE_NONZERO,
         Aim::Mirrored => near::MIRRORED,
+        Aim::CompositeAdded => composites::COMPOSITE_ADDED,
+        Aim::ObjectMoves => composites::OBJECT_MOVES,
         Aim::RenamedId => near::RENAMED_ID,
         Aim::UnusedCode => near::UNUSED_CODE,
         Aim::NodeType => near::NODE_TYPE,
@@ -178,6 +183,7 @@ pub(crate) fn value_steps(aim: Aim) -> &'static [ValueStep] {
         Aim::Reshuffled => near::RESHUFFLED,
         Aim::MixedOrders => mixed::MIXED_ORDERS,
         Aim::MixedTramo => mixed::MIXED_TRAMO,
+        Aim::MixedComposites => mixed::MIXED_COMPOSITES,
         _ => panic!("{} has no steps over the values", aim),
     }
 }

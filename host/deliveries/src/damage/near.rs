@@ -3,7 +3,8 @@
 use super::topology::{is_numbered, points_on_nodes, End};
 use super::{places_where, strike, ValueStep};
 use crate::graft::{
-    codes, free_place, line_ids, linear_ids, node_ids, point_ids, slip_in, text_ids, tramo_ids,
+    codes, composite_ids, free_place, line_ids, linear_ids, node_ids, point_ids, slip_in, text_ids,
+    tramo_ids,
 };
 use crate::kinds::{lawful_code, mend_codes, Kinds};
 use crate::lawful::shuffle_files;
@@ -260,6 +261,12 @@ pub const MINUS_BEFORE_NONZERO: &[ValueStep] = &[
             model.ob_lin[linear].centroide = below_zero(random);
         })
     },
+    |random, model| {
+        let composites = (0..model.ob_comp.len()).collect();
+        strike(random.one_of(composites), |composite: usize| {
+            model.ob_comp[composite].centroide = below_zero(random);
+        })
+    },
 ];
 
 fn below_zero(random: &mut Random) -> Posicion {
@@ -281,9 +288,11 @@ fn mirror(model: &mut Model, axis: fn(&mut Posicion) -> &mut Option<i64>) -> boo
     let linears = model.ob_lin.iter_mut().map(|record| &mut record.centroide);
     let vertices = model.vertice.iter_mut().map(|record| &mut record.posicion);
     let nodes = model.nodo.iter_mut().map(|record| &mut record.posicion);
+    let composites = model.ob_comp.iter_mut().map(|record| &mut record.centroide);
     let all = points
         .chain(texts)
         .chain(linears)
+        .chain(composites)
         .chain(vertices)
         .chain(nodes);
     let mut changed = false;
@@ -302,6 +311,7 @@ pub const RENAMED_ID: &[ValueStep] = &[
     rename_linear,
     rename_line,
     rename_tramo,
+    rename_composite,
     |random, model| {
         let id = fresh_id(random, &point_ids(model));
         let points = (0..model.ob_pun.len()).collect();
@@ -351,6 +361,19 @@ fn rename_linear(random: &mut Random, model: &mut Model) -> bool {
         for tramo in &mut model.tramo {
             if tramo.id_olin == old.id_olin {
                 tramo.id_olin = new;
+            }
+        }
+    })
+}
+
+fn rename_composite(random: &mut Random, model: &mut Model) -> bool {
+    let new = fresh_id(random, &composite_ids(model));
+    let composites = (0..model.ob_comp.len()).collect();
+    strike(random.one_of(composites), |place: usize| {
+        let old = std::mem::replace(&mut model.ob_comp[place].id_ocomp, new);
+        for member in model.memberships() {
+            if *member == Some(old) {
+                *member = Some(new);
             }
         }
     })
@@ -430,19 +453,28 @@ pub const OPTIONAL_FIELDS: &[ValueStep] = &[
             model.ob_tex[text].justifi = random.pick(&[Some(1), Some(9)]);
         })
     },
-    // A centroid has X and Y, with or without Z, or nothing.
     |random, model| {
         let linears = (0..model.ob_lin.len()).collect();
         strike(random.one_of(linears), |linear: usize| {
-            let centroid = &mut model.ob_lin[linear].centroide;
-            *centroid = if *centroid == Posicion::default() {
-                Posicion::at((0, -Y_MOST), height(random))
-            } else {
-                Posicion::default()
-            };
+            change_centroid(random, &mut model.ob_lin[linear].centroide);
+        })
+    },
+    |random, model| {
+        let composites = (0..model.ob_comp.len()).collect();
+        strike(random.one_of(composites), |composite: usize| {
+            change_centroid(random, &mut model.ob_comp[composite].centroide);
         })
     },
 ];
+
+/// A centroid has X and Y, with or without Z, or nothing.
+fn change_centroid(random: &mut Random, centroid: &mut Posicion) {
+    *centroid = if *centroid == Posicion::default() {
+        Posicion::at((0, -Y_MOST), height(random))
+    } else {
+        Posicion::default()
+    };
+}
 
 /// All free words of the delivery. Each may be 60 bytes long.
 fn free_texts(model: &mut Model) -> Vec<&mut Vec<u8>> {
@@ -454,6 +486,7 @@ fn free_texts(model: &mut Model) -> Vec<&mut Vec<u8>> {
     texts.extend(model.ob_pun.iter_mut().map(|record| &mut record.nombre_i));
     texts.extend(model.ob_tex.iter_mut().map(|record| &mut record.literal));
     texts.extend(model.ob_lin.iter_mut().map(|record| &mut record.nombre_i));
+    texts.extend(model.ob_comp.iter_mut().map(|record| &mut record.nombre_i));
     texts
 }
 
@@ -507,8 +540,10 @@ fn rename_code(model: &mut Model, old: &[u8], new: &[u8]) {
     let texts = model.ob_tex.iter_mut().map(|record| &mut record.codigo);
     let linears = model.ob_lin.iter_mut().map(|record| &mut record.codigo);
     let tramos = model.tramo.iter_mut().map(|record| &mut record.codigo);
-    let objects = points.chain(texts).chain(linears).chain(tramos);
-    for code in catalogued.chain(objects).filter(|code| *code == old) {
+    let composites = model.ob_comp.iter_mut().map(|record| &mut record.codigo);
+    let objects = points.chain(texts).chain(linears).chain(composites);
+    let all = catalogued.chain(objects).chain(tramos);
+    for code in all.filter(|code| *code == old) {
         *code = new.to_vec();
     }
 }
@@ -580,4 +615,5 @@ pub const RESHUFFLED: &[ValueStep] = &[|random, model| {
         || model.ob_tex.len() > 1
         || model.vertice.len() > 1
         || model.nodo.len() > 1
+        || model.ob_comp.len() > 1
 }];

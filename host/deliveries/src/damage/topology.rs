@@ -400,7 +400,7 @@ fn crosses(model: &Model) -> Vec<Posicion> {
 }
 
 /// Ids that a program might look up in the wrong file.
-fn ids_of_other_files(model: &Model) -> BTreeSet<u64> {
+pub fn ids_of_other_files(model: &Model) -> BTreeSet<u64> {
     let mut ids = point_ids(model);
     ids.extend(tramo_ids(model));
     ids.extend(line_ids(model));

@@ -2,10 +2,12 @@
 
 use independent::program_line;
 
-pub type Files = [Vec<u8>; 7];
+pub const FILES: usize = 8;
 
-/// The widths of document 01's table.
-pub const WIDTHS: [&[usize]; 7] = [
+pub type Files = [Vec<u8>; FILES];
+
+/// The widths of document 01's table, and those of OB_COMP.
+pub const WIDTHS: [&[usize]; FILES] = [
     &[7, 1, 60, 60],
     &[10, 10, 10, 7, 60, 5, 3, 1, 9, 1, 10, 1, 8],
     &[10, 10, 7, 60, 3, 3, 5, 1, 1, 9, 1, 10, 1, 8],
@@ -13,10 +15,11 @@ pub const WIDTHS: [&[usize]; 7] = [
     &[10, 10, 10, 10, 7, 10, 10, 1],
     &[10, 5, 1, 9, 1, 10, 1, 8],
     &[10, 1, 1, 9, 1, 10, 1, 8],
+    &[10, 7, 60, 1, 9, 1, 10, 1, 8],
 ];
 
-pub fn lent(files: &Files) -> [&[u8]; 7] {
-    let mut slices: [&[u8]; 7] = [&[]; 7];
+pub fn lent(files: &Files) -> [&[u8]; FILES] {
+    let mut slices: [&[u8]; FILES] = [&[]; FILES];
     for (slice, file) in slices.iter_mut().zip(files) {
         *slice = file;
     }
@@ -133,7 +136,8 @@ pub fn small() -> Files {
 
 /// A lawful delivery with something in each file: a line shared by two
 /// tramos, two nodes one above the other, one that stands alone, codes of
-/// nodes, signs both ways, words and texts.
+/// nodes, signs both ways, words and texts, and a composite of a point, a text
+/// and a line besides one of a line alone.
 pub fn rich() -> Files {
     let mut files = small();
     add(&mut files, 1, &[(1, b"0200000"), (2, b"P"), (3, b"POZO")]);
@@ -218,6 +222,15 @@ pub fn rich() -> Files {
     set(&mut files, 7, 3, 2, b"A");
     set(&mut files, 7, 4, 2, b"E");
     set(&mut files, 7, 5, 2, b"C");
+    add(&mut files, 1, &[(1, b"0400000"), (2, b"C")]);
+    let sewer = [(1, &b"0000000009"[..]), (2, b"0400000"), (3, b"RED 9")];
+    add(&mut files, 8, &sewer);
+    place(&mut files, 8, 1, 4, -1, 2, Some(3));
+    add(&mut files, 8, &[(1, b"0000000000"), (2, b"0400000")]);
+    set(&mut files, 2, 1, 2, b"0000000009");
+    set(&mut files, 3, 1, 2, b"0000000009");
+    set(&mut files, 4, 1, 2, b"0000000009");
+    set(&mut files, 4, 2, 2, b"0000000000");
     files
 }
 

@@ -23,27 +23,30 @@ fn s_is_built_as_the_document_says() {
         "", "", "", ""
     );
     assert_eq!(files[0], codes.as_bytes());
-    assert!(files[1].is_empty() && files[2].is_empty());
+    assert!(files[1].is_empty() && files[2].is_empty() && files[7].is_empty());
 }
 
 #[test]
-fn case_1_seven_empty_files() {
+fn case_1_all_files_empty() {
     assert_eq!(
         said(&Files::default()),
-        "OK 00000 00000 00000 00000 00000 00000 00000"
+        "OK 00000 00000 00000 00000 00000 00000 00000 00000"
     );
 }
 
 #[test]
 fn case_2_s() {
     let files = small();
-    assert_eq!(said(&files), "OK 00002 00000 00000 00001 00001 00002 00002");
+    assert_eq!(
+        said(&files),
+        "OK 00002 00000 00000 00001 00001 00002 00002 00000"
+    );
     let verdict = judge(lent(&files));
-    assert_eq!(verdict, Verdict::Accepted([2, 0, 0, 1, 1, 2, 2]));
-    assert_eq!(counts(lent(&files)), [2, 0, 0, 1, 1, 2, 2]);
+    assert_eq!(verdict, Verdict::Accepted([2, 0, 0, 1, 1, 2, 2, 0]));
+    assert_eq!(counts(lent(&files)), [2, 0, 0, 1, 1, 2, 2, 0]);
     assert_eq!(
         line(&verdict),
-        "OK 00002 00000 00000 00001 00001 00002 00002\n"
+        "OK 00002 00000 00000 00001 00001 00002 00002 00000\n"
     );
 }
 
@@ -131,7 +134,10 @@ fn case_12_third_node_at_0_0() {
 fn case_13_a_bar_in_the_name() {
     let mut files = small();
     set(&mut files, 4, 1, 4, b"RIO | SECO");
-    assert_eq!(said(&files), "OK 00002 00000 00000 00001 00001 00002 00002");
+    assert_eq!(
+        said(&files),
+        "OK 00002 00000 00000 00001 00001 00002 00002 00000"
+    );
 }
 
 #[test]
@@ -160,6 +166,9 @@ fn case_14_writing_x_of_nine_and_ten_digits() {
 #[test]
 fn the_first_break_is_the_least_place() {
     let mut files = small();
+    add(&mut files, 1, &[(1, b"0400000"), (2, b"C")]);
+    add(&mut files, 8, &[(1, b"0000000001"), (2, b"0400000")]);
+    assert_eq!(said(&files), "NO 70 8 00001 00");
     set(&mut files, 7, 2, 4, b"000000141");
     set(&mut files, 6, 2, 2, b"00003");
     assert_eq!(said(&files), "NO 53 5 00001 07");

@@ -1,16 +1,26 @@
 //! All breaks counted, and grids added up: W-201.
 
-use crate::build::{add, after, lent, node, place, rich, set, small, vertex, Files, Noise, WIDTHS};
+use crate::build::{
+    add, after, lent, node, place, rich, set, small, vertex, Files, Noise, FILES, WIDTHS,
+};
 use crate::listing::{disturb, lowest_ten};
 use independent::{grid, judge, Grid, Verdict, LENGTHS};
 
-const NONE: Grid = [[0; 5]; 7];
+const NONE: Grid = [[0; 6]; FILES];
+
+/// The column of a ten, by its first reason.
+fn column(ten: usize) -> usize {
+    match ten {
+        70 => 5,
+        _ => ten / 10 - 1,
+    }
+}
 
 /// A grid of zeros but for these cells: file, ten and count.
 fn cells(counts: &[(usize, usize, u64)]) -> Grid {
     let mut grid = NONE;
     for &(file, ten, count) in counts {
-        grid[file - 1][ten / 10 - 1] = count;
+        grid[file - 1][column(ten)] = count;
     }
     grid
 }
@@ -61,7 +71,7 @@ fn reason_11_of_several_files() {
 
 #[test]
 fn too_long_and_ragged_are_two_breaks() {
-    for file in 1..=7 {
+    for file in 1..=FILES {
         let most = 16_384 * LENGTHS[file - 1];
         for (length, count) in [(most + 1, 2), (most + LENGTHS[file - 1], 1), (most - 1, 1)] {
             let found = of_small(|f| f[file - 1].resize(length, b' '));
@@ -224,24 +234,25 @@ fn reason_30_in_every_file() {
             *file = first.repeat(i + 2);
         }
     });
-    let all: Vec<_> = (1..=7).map(|file| (file, 30, file as u64)).collect();
+    let all: Vec<_> = (1..=FILES).map(|file| (file, 30, file as u64)).collect();
     assert_eq!(found, cells(&all));
 }
 
 #[test]
 fn reason_40_at_each_reference() {
     let points_and_texts = of_rich(|f| {
-        set(f, 2, 1, 2, b"0000000000");
+        set(f, 2, 1, 2, b"0000000008");
         set(f, 2, 1, 3, b"0000000099");
         set(f, 2, 1, 4, b"unknown");
         set(f, 2, 2, 3, b"0000000098");
         set(f, 3, 1, 2, b"0000000001");
         set(f, 3, 1, 3, b"unknown");
         set(f, 4, 2, 2, b"0000000001");
+        set(f, 8, 1, 2, b"unknown");
     });
     assert_eq!(
         points_and_texts,
-        cells(&[(2, 40, 4), (3, 40, 2), (4, 40, 1)])
+        cells(&[(2, 40, 4), (3, 40, 2), (4, 40, 1), (8, 40, 1)])
     );
     let tramo = of_small(|f| {
         set(f, 5, 1, 2, b"0000000009");
@@ -263,10 +274,12 @@ fn reason_41_in_each_file_with_codes() {
         set(f, 4, 1, 3, b"0100001");
         set(f, 5, 1, 5, b"0100000");
         set(f, 5, 3, 5, b"0200000");
+        set(f, 8, 1, 2, b"0100000");
+        set(f, 8, 2, 2, b"0200000");
     });
     assert_eq!(
         found,
-        cells(&[(2, 40, 2), (3, 40, 1), (4, 40, 1), (5, 40, 2)])
+        cells(&[(2, 40, 2), (3, 40, 1), (4, 40, 1), (5, 40, 2), (8, 40, 2)])
     );
     // One entry of the catalogue changed is told at each that uses it.
     let entry = of_rich(|f| set(f, 1, 2, 2, b"L"));
@@ -411,6 +424,19 @@ fn reason_57_at_each_linear_object_without_tramo() {
 }
 
 #[test]
+fn reason_70_at_each_composite_without_use() {
+    let one = of_rich(|f| set(f, 4, 2, 2, b""));
+    assert_eq!(one, cells(&[(8, 70, 1)]));
+    let all = of_rich(|f| {
+        for (file, record) in [(2, 1), (3, 1), (4, 1), (4, 2)] {
+            set(f, file, record, 2, b"");
+        }
+        add(f, 8, &[(1, b"0000000007"), (2, b"0400000")]);
+    });
+    assert_eq!(all, cells(&[(8, 70, 3)]));
+}
+
+#[test]
 fn all_files_of_one_ten_are_shown() {
     let found = of_rich(|f| {
         set(f, 2, 1, 9, b"000000008");
@@ -428,6 +454,9 @@ fn all_files_of_one_ten_are_shown() {
 #[test]
 fn only_the_lowest_ten_is_shown() {
     let mut files = small();
+    add(&mut files, 1, &[(1, b"0400000"), (2, b"C")]);
+    add(&mut files, 8, &[(1, b"0000000001"), (2, b"0400000")]);
+    assert_eq!(counted(&files), cells(&[(8, 70, 1)]));
     set(&mut files, 7, 2, 4, b"000000141");
     set(&mut files, 6, 2, 2, b"00003");
     add(&mut files, 4, &[(1, b"0000000002"), (3, b"0100000")]);
@@ -452,7 +481,7 @@ fn only_the_lowest_ten_is_shown() {
 #[test]
 fn the_grid_counts_the_list() {
     let mut noise = Noise(0x201);
-    let mut most = [0; 5];
+    let mut most = [0; 6];
     for _ in 0..12_000 {
         let mut files = rich();
         for _ in 0..noise.below(8) {
@@ -461,7 +490,7 @@ fn the_grid_counts_the_list() {
         let mut list = lowest_ten(&files);
         let mut expected = NONE;
         for &(ten, file, ..) in &list {
-            expected[file - 1][usize::from(ten) - 1] += 1;
+            expected[file - 1][column(10 * usize::from(ten))] += 1;
         }
         assert_eq!(counted(&files), expected);
         let accepted = matches!(judge(lent(&files)), Verdict::Accepted(_));
@@ -472,7 +501,7 @@ fn the_grid_counts_the_list() {
         list.dedup();
         assert_eq!(list.len(), length);
         if let Some(&(ten, ..)) = list.first() {
-            let most = &mut most[usize::from(ten) - 1];
+            let most = &mut most[column(10 * usize::from(ten))];
             *most = length.max(*most);
         }
     }
@@ -512,9 +541,10 @@ fn every_reference_of_full_files_broken() {
     for i in 0..FULL as u64 {
         let id = format!("{i:010}");
         let (id, none) = (id.as_bytes(), &b"9999999999"[..]);
-        add(&mut files, 2, &[(1, id), (2, id), (3, none), (4, b"9")]);
+        add(&mut files, 2, &[(1, id), (2, none), (3, none), (4, b"9")]);
         place(&mut files, 2, i as usize + 1, 8, 1, 1, None);
-        add(&mut files, 4, &[(1, id), (2, id), (3, b"9")]);
+        add(&mut files, 4, &[(1, id), (2, none), (3, b"9")]);
+        add(&mut files, 8, &[(1, id), (2, b"9")]);
         let names = [(1, id), (2, none), (3, id), (4, none), (5, &b"9"[..])];
         add(&mut files, 5, &names);
         set(&mut files, 5, i as usize + 1, 6, none);
@@ -527,6 +557,7 @@ fn every_reference_of_full_files_broken() {
         (4, 40, 2 * full),
         (5, 40, 6 * full),
         (6, 40, full),
+        (8, 40, full),
     ];
     assert_eq!(counted(&files), cells(&expected));
 }
@@ -559,6 +590,19 @@ fn every_place_of_full_files_broken() {
         (7, 50, 2 * (full - 1)),
     ];
     assert_eq!(counted(&files), cells(&expected));
+}
+
+#[test]
+fn every_composite_of_a_full_file_without_use() {
+    let mut files = small();
+    add(&mut files, 1, &[(1, b"0400000"), (2, b"C")]);
+    for i in 0..FULL {
+        let id = format!("{i:010}");
+        add(&mut files, 8, &[(1, id.as_bytes()), (2, b"0400000")]);
+    }
+    assert_eq!(counted(&files), cells(&[(8, 70, FULL as u64)]));
+    set(&mut files, 4, 1, 2, b"0000016383");
+    assert_eq!(counted(&files), cells(&[(8, 70, FULL as u64 - 1)]));
 }
 
 /// A grid whose cells are all different.
@@ -599,8 +643,8 @@ fn grids_of_deliveries_add_up() {
 #[test]
 fn a_sum_of_more_than_ten_digits_is_refused() {
     const MOST: u64 = 9_999_999_999;
-    for file in 1..=7 {
-        for ten in [10, 20, 30, 40, 50] {
+    for file in 1..=FILES {
+        for ten in [10, 20, 30, 40, 50, 70] {
             for (one, other, fits) in [
                 (MOST, 0, true),
                 (MOST - 1, 1, true),
@@ -617,12 +661,12 @@ fn a_sum_of_more_than_ten_digits_is_refused() {
                 for (a, b) in [(one, other), (other, one)] {
                     let mut into = numbered();
                     let mut from = numbered();
-                    into[file - 1][ten / 10 - 1] = a;
-                    from[file - 1][ten / 10 - 1] = b;
+                    into[file - 1][column(ten)] = a;
+                    from[file - 1][column(ten)] = b;
                     let before = into;
                     assert_eq!(independent::add(&mut into, &from), fits);
                     if fits {
-                        assert_eq!(into[file - 1][ten / 10 - 1], a + b);
+                        assert_eq!(into[file - 1][column(ten)], a + b);
                     } else {
                         assert_eq!(into, before);
                     }

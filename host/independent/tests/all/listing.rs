@@ -4,7 +4,7 @@
 //! rule asked of every place, by loops over all records. Its least place must
 //! be what the library tells, and its length what the grid counts.
 
-use crate::build::{lent, record_length, rich, start, Files, Noise, WIDTHS};
+use crate::build::{lent, record_length, rich, start, Files, Noise, FILES, WIDTHS};
 use independent::{judge, read, Break, Refusal, Verdict};
 
 /// Tens, file, record, field, reason: the order that says which is first.
@@ -35,9 +35,9 @@ fn is_padded(bytes: &[u8]) -> bool {
     bytes[0] == b' ' || bytes[0] == 0xA0 || (0..bytes.len()).any(ends_in_a0)
 }
 
-const CODE: [usize; 7] = [1, 4, 3, 3, 5, 0, 0];
-const FIRST_SIGN: [usize; 7] = [0, 8, 9, 5, 0, 3, 3];
-const NEEDED: [&[usize]; 7] = [
+const CODE: [usize; FILES] = [1, 4, 3, 3, 5, 0, 0, 2];
+const FIRST_SIGN: [usize; FILES] = [0, 8, 9, 5, 0, 3, 3, 4];
+const NEEDED: [&[usize]; FILES] = [
     &[1, 2],
     &[1, 4, 8, 9, 10, 11],
     &[1, 3, 5, 8, 9, 10, 11, 12],
@@ -45,8 +45,9 @@ const NEEDED: [&[usize]; 7] = [
     &[1, 2, 5, 6, 7],
     &[1, 2, 3, 4, 5, 6],
     &[1, 3, 4, 5, 6],
+    &[1, 2],
 ];
-const NUMBERS: [&[usize]; 7] = [
+const NUMBERS: [&[usize]; FILES] = [
     &[],
     &[1, 2, 3, 6, 7, 9, 11, 13],
     &[1, 2, 5, 6, 7, 8, 10, 12, 14],
@@ -54,6 +55,7 @@ const NUMBERS: [&[usize]; 7] = [
     &[1, 2, 3, 4, 6, 7],
     &[1, 2, 4, 6, 8],
     &[1, 4, 6, 8],
+    &[1, 5, 7, 9],
 ];
 
 /// Whether the field is one of a position's six, and which.
@@ -67,7 +69,7 @@ fn of_six(file: usize, field: usize) -> Option<usize> {
 }
 
 fn tens(files: &Files, list: &mut Vec<Place>) {
-    for file in 1..=7 {
+    for file in 1..=FILES {
         let (have, length) = (files[file - 1].len(), record_length(file));
         if have > 16_384 * length {
             list.push((1, file, 0, 0, 10));
@@ -107,7 +109,9 @@ fn twenties_of_record(files: &Files, file: usize, record: usize) -> Vec<Place> {
         let at = |i: usize| bytes(files, file, record, FIRST_SIGN[file - 1] + i);
         let demanded = NEEDED[file - 1].contains(&field)
             || of_six(file, field).map_or(false, |i| !is_blank(at(i ^ 1)))
-            || file == 4 && (5..=8).contains(&field) && (0..6).any(|i| !is_blank(at(i)));
+            || [4, 8].contains(&file)
+                && of_six(file, field).map_or(false, |i| i < 4)
+                && (0..6).any(|i| !is_blank(at(i)));
         if missing && demanded {
             told(24);
         }
@@ -115,7 +119,7 @@ fn twenties_of_record(files: &Files, file: usize, record: usize) -> Vec<Place> {
             continue;
         }
         let outside = match (file, field, of_six(file, field)) {
-            (1, 2, _) => !b"PXLT".contains(&have[0]),
+            (1, 2, _) => !b"PXLTC".contains(&have[0]),
             (5, 8, _) => !b"+-".contains(&have[0]),
             (7, 2, _) => !b"ACEIH".contains(&have[0]),
             (2, 6, _) | (3, 7, _) => have[..3] > b"359"[..] || have[3..] > b"59"[..],
@@ -143,7 +147,7 @@ fn key(files: &Files, file: usize, record: usize) -> (&[u8], &[u8]) {
 }
 
 fn thirties(files: &Files, list: &mut Vec<Place>) {
-    for file in 1..=7 {
+    for file in 1..=FILES {
         for later in records(files, file) {
             if (1..later).any(|earlier| key(files, file, earlier) == key(files, file, later)) {
                 list.push((3, file, later, if file == 6 { 2 } else { 1 }, 30));
@@ -166,10 +170,10 @@ fn forties(files: &Files, list: &mut Vec<Place>) {
     let names =
         |file: usize, id: &[u8]| records(files, file).any(|r| bytes(files, file, r, 1) == id);
     for (file, field, target) in [
-        (2, 2, 0),
+        (2, 2, 8),
         (2, 3, 7),
-        (3, 2, 0),
-        (4, 2, 0),
+        (3, 2, 8),
+        (4, 2, 8),
         (5, 2, 4),
         (5, 3, 0),
         (5, 6, 7),
@@ -193,7 +197,7 @@ fn forties(files: &Files, list: &mut Vec<Place>) {
             list.push((4, 6, vertex, 1, 40));
         }
     }
-    for (file, tipo) in [(2, b"P"), (3, b"X"), (4, b"L"), (5, b"T")] {
+    for (file, tipo) in [(2, b"P"), (3, b"X"), (4, b"L"), (5, b"T"), (8, b"C")] {
         let field = CODE[file - 1];
         for record in records(files, file) {
             let code = bytes(files, file, record, field);
@@ -304,8 +308,18 @@ fn fifties(files: &Files, list: &mut Vec<Place>) {
     }
 }
 
+fn seventies(files: &Files, list: &mut Vec<Place>) {
+    for composite in records(files, 8) {
+        let id = bytes(files, 8, composite, 1);
+        let named = |file: usize| records(files, file).any(|r| bytes(files, file, r, 2) == id);
+        if ![2, 3, 4].into_iter().any(named) {
+            list.push((7, 8, composite, 0, 70));
+        }
+    }
+}
+
 fn twenties(files: &Files, list: &mut Vec<Place>) {
-    for file in 1..=7 {
+    for file in 1..=FILES {
         for record in records(files, file) {
             list.extend(twenties_of_record(files, file, record));
         }
@@ -331,7 +345,7 @@ fn other(files: &Files, (_, file, record, field, reason): Place) -> u64 {
 /// All breaks of the lowest ten that has any.
 pub fn lowest_ten(files: &Files) -> Vec<Place> {
     let mut list = Vec::new();
-    for group in [tens, twenties, thirties, forties, fifties] {
+    for group in [tens, twenties, thirties, forties, fifties, seventies] {
         group(files, &mut list);
         if !list.is_empty() {
             break;
@@ -355,7 +369,7 @@ fn listed(files: &Files) -> Option<Break> {
 /// One random change to a delivery.
 pub fn disturb(files: &mut Files, noise: &mut Noise) {
     // The files that the fifties are read of come up more often.
-    let file = [1, 2, 3, 4, 4, 5, 5, 6, 6, 6, 7, 7][noise.below(12)];
+    let file = [1, 2, 3, 4, 4, 5, 5, 6, 6, 6, 7, 7, 8, 8][noise.below(14)];
     let length = record_length(file);
     let count = files[file - 1].len() / length;
     if count == 0 {
@@ -379,15 +393,22 @@ pub fn disturb(files: &mut Files, noise: &mut Noise) {
         }
         3 => {
             let at = noise.below(bytes.len());
-            let palette = b" 0129+-|PXLTNAD*\xA0\x00\r\n";
+            let palette = b" 0129+-|PXLTCNAD*\xA0\x00\r\n";
             bytes[at] = palette[noise.below(palette.len())];
         }
         // The place of one vertex or node given to another.
-        9 if file >= 6 => {
+        9 if [6, 7].contains(&file) => {
             let from = start(file, other + 1, 3);
             let to = start(file, record + 1, 3);
             let place = bytes[from..(other + 1) * length].to_vec();
             bytes[to..(record + 1) * length].copy_from_slice(&place);
+        }
+        // One composite more, with an id of its own.
+        11 | 12 if file == 8 => {
+            let mut copy = bytes[record * length..(record + 1) * length].to_vec();
+            let id = 10 + noise.below(1_000_000);
+            copy[..10].copy_from_slice(format!("{id:010}").as_bytes());
+            bytes.extend_from_slice(&copy);
         }
         4 if noise.below(8) == 0 => {
             let keep = noise.below(bytes.len());
@@ -431,7 +452,7 @@ pub fn disturb(files: &mut Files, noise: &mut Noise) {
 #[test]
 fn the_first_break_is_the_least_of_the_list() {
     let mut noise = Noise(0xD15C0);
-    let mut seen = [0_usize; 60];
+    let mut seen = [0_usize; 80];
     for _ in 0..12_000 {
         let mut files = rich();
         for _ in 0..noise.below(5) {
@@ -446,7 +467,7 @@ fn the_first_break_is_the_least_of_the_list() {
         seen[found.map_or(0, |b| usize::from(b.reason))] += 1;
     }
     for reason in [
-        0, 11, 20, 21, 22, 23, 24, 25, 30, 40, 41, 50, 51, 52, 53, 54, 55, 56, 57, 58,
+        0, 11, 20, 21, 22, 23, 24, 25, 30, 40, 41, 50, 51, 52, 53, 54, 55, 56, 57, 58, 70,
     ] {
         assert!(seen[reason] >= 5, "{reason}: {}", seen[reason]);
     }
@@ -460,7 +481,7 @@ fn reading_tells_the_least_of_the_records_list() {
         for _ in 0..12 {
             disturb(&mut files, &mut noise);
         }
-        for file in 1..=7 {
+        for file in 1..=FILES {
             for record in records(&files, file) {
                 let list = twenties_of_record(&files, file, record);
                 let expected = list

@@ -1,14 +1,15 @@
 //! No call panics, whatever it is given.
 
-use crate::build::{lent, rich, small, Files, Noise};
+use crate::build::{lent, rich, small, Files, Noise, FILES};
 use independent::{
     counts, field_name, fields, form, grid, judge, line, program_line, read, width, write, Break,
-    Grid, Value, Verdict, LENGTHS,
+    Grid, Value, Verdict, LENGTHS, TENS,
 };
 
 /// The first break is counted, with none of another ten or of a file before.
 fn assert_holds(grid: &Grid, first: Break) {
-    let ten = usize::from(first.reason / 10) - 1;
+    let is_its_ten = |&ten: &u8| ten == first.reason / 10;
+    let ten = TENS.iter().position(is_its_ten).unwrap();
     for (i, row) in grid.iter().enumerate() {
         assert!(row[ten] > 0 || i + 1 != first.file);
         assert!(row[ten] == 0 || i + 1 >= first.file);
@@ -28,7 +29,7 @@ fn ask_all(files: &Files) {
     match verdict {
         Verdict::Accepted(accepted) => {
             assert_eq!(accepted, counts);
-            assert_eq!(grid, [[0; 5]; 7]);
+            assert_eq!(grid, [[0; 6]; FILES]);
         }
         Verdict::Broken(first) => assert_holds(&grid, first),
     }
@@ -58,7 +59,7 @@ fn random_bytes() {
 #[test]
 fn random_bytes_of_whole_records_with_bars_and_line_ends() {
     let mut noise = Noise(0xBA5);
-    let bytes = b" 0123456789+-|PXLTNAD\xA0\x00";
+    let bytes = b" 0123456789+-|PXLTCNAD\xA0\x00";
     for _ in 0..2_000 {
         let mut files = rich();
         for (i, file) in files.iter_mut().enumerate() {
@@ -76,7 +77,7 @@ fn random_bytes_of_whole_records_with_bars_and_line_ends() {
 #[test]
 fn every_byte_of_s_changed() {
     let files = small();
-    for i in 0..7 {
+    for i in 0..FILES {
         for at in 0..files[i].len() {
             for byte in [
                 0, b'\n', b'\r', b' ', b'+', b'-', b'0', b'1', b'9', b'|', 0x7F, 0xA0, 0xFF,
@@ -92,7 +93,7 @@ fn every_byte_of_s_changed() {
 #[test]
 fn every_length_of_s() {
     let files = rich();
-    for i in 0..7 {
+    for i in 0..FILES {
         for length in 0..=files[i].len() {
             let mut cut = files.clone();
             cut[i].truncate(length);
@@ -133,7 +134,7 @@ fn random_numbers_and_values() {
         }
     }
     for _ in 0..20_000 {
-        let file = noise.below(9);
+        let file = noise.below(FILES + 2);
         let length = noise.below(17);
         let values: Vec<Value> = (0..length)
             .map(|_| match noise.below(5) {

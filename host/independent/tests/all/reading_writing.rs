@@ -1,6 +1,6 @@
 //! Single records: reading, writing and both in turn.
 
-use crate::build::{after, rich, set, small, Noise};
+use crate::build::{after, rich, set, small, Noise, FILES};
 use independent::{
     field_name, fields, form, read, width, write, Form, Refusal, Value, LENGTHS, NAMES,
 };
@@ -53,6 +53,13 @@ fn a_linear() -> Vec<Value> {
     values
 }
 
+fn a_composite() -> Vec<Value> {
+    let mut values = vec![Missing; 9];
+    values[0] = Number(1);
+    values[1] = text(b"0400000");
+    values
+}
+
 fn a_tramo() -> Vec<Value> {
     vec![
         Number(1),
@@ -72,8 +79,8 @@ fn an_entry() -> Vec<Value> {
 
 #[test]
 fn the_fields_are_those_of_the_table() {
-    let counts = [4, 13, 14, 10, 8, 8, 8];
-    for file in 1..=7 {
+    let counts = [4, 13, 14, 10, 8, 8, 8, 9];
+    for file in 1..=FILES {
         assert_eq!(fields(file), counts[file - 1]);
         for field in 1..=fields(file) {
             assert_eq!(
@@ -98,7 +105,7 @@ fn reading_gives_a_value_for_each_field() {
     let files = rich();
     let point = vec![
         Number(0),
-        Missing,
+        Number(9),
         Number(3),
         text(b"0200000"),
         text(b"Pozo viejo"),
@@ -113,6 +120,18 @@ fn reading_gives_a_value_for_each_field() {
     ];
     assert_eq!(read(2, &files[1], 1), Ok(point));
     assert_eq!(read(7, &files[6], 1), Ok(a_node()));
+    let composite = vec![
+        Number(9),
+        text(b"0400000"),
+        text(b"RED 9"),
+        Missing,
+        Coordinate(-1),
+        Missing,
+        Coordinate(2),
+        Missing,
+        Coordinate(3),
+    ];
+    assert_eq!(read(8, &files[7], 1), Ok(composite));
     let far = read(2, &files[1], 2).unwrap();
     assert_eq!(far[8], Coordinate(999_999_999));
     assert_eq!(far[10], Coordinate(-9_999_999_999));
@@ -122,7 +141,7 @@ fn reading_gives_a_value_for_each_field() {
 #[test]
 fn reading_asks_for_file_then_record_then_fields() {
     let files = small();
-    for file in [0, 8, usize::MAX] {
+    for file in [0, 9, usize::MAX] {
         assert_eq!(read(file, &files[6], 0), refusal(60, 0));
     }
     for record in [0, 3, usize::MAX] {
@@ -167,7 +186,7 @@ fn reading_tells_the_first_by_field_and_reason() {
 #[test]
 fn every_record_is_written_back_as_it_was() {
     let files = rich();
-    for file in 1..=7 {
+    for file in 1..=FILES {
         for (i, record) in files[file - 1].chunks(LENGTHS[file - 1]).enumerate() {
             let values = read(file, &files[file - 1], i + 1).unwrap();
             assert_eq!(values.len(), fields(file));
@@ -179,7 +198,7 @@ fn every_record_is_written_back_as_it_was() {
 #[test]
 fn writing_asks_for_file_then_room_then_values() {
     let mut room = [7; 49];
-    for file in [0, 8, usize::MAX] {
+    for file in [0, 9, usize::MAX] {
         assert_eq!(write(file, &[], &mut room), refusal(60, 0));
         assert_eq!(write(file, &[], &mut []), refusal(60, 0));
     }
@@ -244,33 +263,68 @@ fn zero_is_written_with_plus() {
     assert_eq!(written(7, &values), expected);
 }
 
+/// The first sign stands at field 5 of OB_LIN and at field 4 of OB_COMP.
 #[test]
 fn a_centroid_has_x_and_y_or_nothing() {
-    written(4, &a_linear());
-    for (present, expected) in [
-        (&[6][..], Some((64, 7))),
-        (&[8], Some((64, 5))),
-        (&[10], Some((64, 5))),
-        (&[6, 10], Some((64, 7))),
-        (&[8, 10], Some((64, 5))),
-        (&[6, 8], None),
-        (&[6, 8, 10], None),
-    ] {
-        let mut values = a_linear();
-        for &field in present {
-            values[field - 1] = Coordinate(-1);
+    for (file, sign, values) in [(4, 5, a_linear()), (8, 4, a_composite())] {
+        written(file, &values);
+        let (x, y, z) = (sign + 1, sign + 3, sign + 5);
+        for (present, expected) in [
+            (&[x][..], Some((64, y - 1))),
+            (&[y], Some((64, sign))),
+            (&[z], Some((64, sign))),
+            (&[x, z], Some((64, y - 1))),
+            (&[y, z], Some((64, sign))),
+            (&[x, y], None),
+            (&[x, y, z], None),
+        ] {
+            let mut values = values.clone();
+            for &field in present {
+                values[field - 1] = Coordinate(-1);
+            }
+            match expected {
+                Some(found) => assert_eq!(refused(file, &values), found),
+                None => assert_eq!(read(file, &written(file, &values), 1), Ok(values)),
+            }
         }
-        match expected {
-            Some(found) => assert_eq!(refused(4, &values), found),
-            None => assert_eq!(read(4, &written(4, &values), 1), Ok(values)),
-        }
+        // A value that is too wide isn't missing for its partners.
+        let mut values = values;
+        values[y - 1] = Coordinate(i64::MIN);
+        assert_eq!(refused(file, &values), (64, sign));
+        values[x - 1] = Coordinate(1);
+        assert_eq!(refused(file, &values), (62, y));
     }
-    // A value that is too wide isn't missing for its partners.
-    let mut values = a_linear();
-    values[7] = Coordinate(i64::MIN);
-    assert_eq!(refused(4, &values), (64, 5));
-    values[5] = Coordinate(1);
-    assert_eq!(refused(4, &values), (62, 8));
+}
+
+#[test]
+fn w204_a_composite_is_written_and_refused() {
+    let mut values = a_composite();
+    values[2] = text(b"RED 9");
+    let name = format!("{:60}", "RED 9");
+    let blank = "| |         | |          | |        \r\n";
+    let expected = format!("0000000001|0400000|{name}{blank}");
+    assert_eq!(written(8, &values), expected.as_bytes());
+    assert_eq!(expected.len(), 117);
+    for (field, value, found) in [
+        (1, Number(10_000_000_000), (62, 1)),
+        (1, Missing, (64, 1)),
+        (2, text(b"12345678"), (63, 2)),
+        (2, text(b"NA"), (64, 2)),
+        (2, Missing, (64, 2)),
+        (3, text(b" RED"), (63, 3)),
+        (3, text(&[b'x'; 61]), (63, 3)),
+    ] {
+        let mut values = a_composite();
+        values[field - 1] = value;
+        assert_eq!(refused(8, &values), found);
+    }
+    let mut room = [7; 116];
+    assert_eq!(write(8, &a_composite(), &mut room), refusal(61, 0));
+    assert_eq!(room, [7; 116]);
+    // The letter of composites is a type of the catalogue now.
+    let mut entry = an_entry();
+    entry[1] = text(b"C");
+    assert_eq!(read(1, &written(1, &entry), 1), Ok(entry));
 }
 
 #[test]
@@ -337,7 +391,7 @@ fn codes_on_writing() {
 #[test]
 fn domains_are_65() {
     for (bytes, found) in [
-        (&b"C"[..], (65, 2)),
+        (&b"S"[..], (65, 2)),
         (b"p", (65, 2)),
         (b"\xA0", (63, 2)),
         (b"\xA1", (65, 2)),
@@ -511,7 +565,7 @@ fn random_value(noise: &mut Noise, file: usize, field: usize) -> Value {
         }
         (Form::Size, 2) => Coordinate(-digits),
         (Form::Size, _) => Coordinate((noise.next() >> 1) as i64 % (2 * digits) - digits),
-        (Form::Tipo, _) => text(&[b"PXLTC"[noise.below(5)]]),
+        (Form::Tipo, _) => text(&[b"PXLTCS"[noise.below(6)]]),
         (Form::Sense, _) => text(&[b"+-x"[noise.below(3)]]),
         (Form::NodeType, _) => text(&[b"ACEIHae"[noise.below(7)]]),
         (Form::Code, _) => random_text(noise, 7),
@@ -537,7 +591,7 @@ fn what_is_written_reads_back_the_same() {
     let mut noise = Noise(0x5EED);
     let mut told = [0_usize; 66];
     for _ in 0..40_000 {
-        let file = 1 + noise.below(7);
+        let file = 1 + noise.below(FILES);
         let given = fields(file) + 1 - noise.below(2);
         let values: Vec<Value> = (1..=given)
             .map(|field| random_value(&mut noise, file, field))

@@ -1,10 +1,10 @@
 //! The readings of document 01, one small test for each that can be seen.
 
-use crate::build::{add, after, lent, node, place, rich, said, set, small, vertex, Files};
+use crate::build::{add, after, lent, node, place, rich, said, set, small, vertex, Files, FILES};
 use independent::{judge, program_line, read, Break, Refusal, Value, Verdict, LENGTHS};
 
-const S_OK: &str = "OK 00002 00000 00000 00001 00001 00002 00002";
-const RICH_OK: &str = "OK 00005 00003 00001 00002 00003 00005 00005";
+const S_OK: &str = "OK 00002 00000 00000 00001 00001 00002 00002 00000";
+const RICH_OK: &str = "OK 00006 00003 00001 00002 00003 00005 00005 00002";
 
 /// What is said of S after a change.
 fn of_small(change: impl Fn(&mut Files)) -> String {
@@ -81,7 +81,7 @@ fn r04_missing_is_told_at_each_field() {
 
 #[test]
 fn r04_each_field_that_may_not_be_missing() {
-    let needed: [(usize, &[usize]); 7] = [
+    let needed: [(usize, &[usize]); FILES] = [
         (1, &[1, 2]),
         (2, &[1, 4, 8, 9, 10, 11]),
         (3, &[1, 3, 5, 8, 9, 10, 11, 12]),
@@ -89,6 +89,7 @@ fn r04_each_field_that_may_not_be_missing() {
         (5, &[1, 2, 5, 6, 7]),
         (6, &[1, 2, 3, 4, 5, 6]),
         (7, &[1, 3, 4, 5, 6]),
+        (8, &[1, 2]),
     ];
     for (file, fields) in needed {
         for field in 1..=crate::build::WIDTHS[file - 1].len() {
@@ -97,8 +98,14 @@ fn r04_each_field_that_may_not_be_missing() {
             let length = LENGTHS[file - 1];
             let found = read(file, &files[file - 1][..length], 1);
             // The Z of the first point and the first text is there, so each
-            // of its two fields is demanded by the other.
-            let partner = (file == 2 && field > 11) || (file == 3 && field > 12);
+            // of its two fields is demanded by the other, and so is the whole
+            // centroid of the first composite.
+            let partner = match file {
+                2 => field > 11,
+                3 => field > 12,
+                8 => field > 3,
+                _ => false,
+            };
             if fields.contains(&field) || partner {
                 assert_eq!(found, Err(Refusal { reason: 24, field }), "{file}");
             } else {
@@ -134,34 +141,33 @@ fn r05_a_sign_and_its_number_stand_together() {
 
 #[test]
 fn r05_any_centroid_field_demands_x_and_y_with_signs() {
-    let all: [(usize, &[u8]); 6] = [
-        (5, b"+"),
-        (6, b"000000001"),
-        (7, b"-"),
-        (8, b"0000000001"),
-        (9, b"+"),
-        (10, b"00000001"),
-    ];
-    for present in 0..64 {
-        let mut files = small();
-        let has = |i: usize| present >> i & 1 == 1;
-        for (i, (field, bytes)) in all.iter().enumerate() {
-            if has(i) {
-                set(&mut files, 4, 1, *field, bytes);
-            }
+    let all: [&[u8]; 6] = [b"+", b"000000001", b"-", b"0000000001", b"+", b"00000001"];
+    for (file, first) in [(4, 5), (8, 4)] {
+        let blank = |f: &mut Files| (0..6).for_each(|i| set(f, file, 1, first + i, b""));
+        for present in 0..64 {
+            let has = |i: usize| present >> i & 1 == 1;
+            let found = of_rich(|f| {
+                blank(f);
+                for i in (0..6).filter(|&i| has(i)) {
+                    set(f, file, 1, first + i, all[i]);
+                }
+            });
+            let lacks = |i: usize| {
+                let demanded = i < 4 || has(i ^ 1);
+                present != 0 && !has(i) && demanded
+            };
+            let expected = match (0..6).find(|&i| lacks(i)) {
+                None => RICH_OK.to_string(),
+                Some(i) => format!("NO 24 {file} 00001 {:02}", first + i),
+            };
+            assert_eq!(found, expected);
         }
-        let lacks = |i: usize| {
-            let demanded = i < 4 || has(i ^ 1);
-            present != 0 && !has(i) && demanded
-        };
-        let expected = match (0..6).find(|&i| lacks(i)) {
-            None => S_OK.to_string(),
-            Some(i) => format!("NO 24 4 00001 {:02}", i + 5),
-        };
-        assert_eq!(said(&files), expected);
+        let damaged = of_rich(|f| {
+            blank(f);
+            set(f, file, 1, first + 5, b"x");
+        });
+        assert_eq!(damaged, format!("NO 24 {file} 00001 {first:02}"));
     }
-    let damaged = of_small(|f| set(f, 4, 1, 10, b"x"));
-    assert_eq!(damaged, "NO 24 4 00001 05");
 }
 
 #[test]
@@ -339,7 +345,7 @@ fn r09_types_and_sense() {
         let catalogue = of_rich(|f| set(f, 1, 5, 2, &[byte]));
         let expected = match byte {
             b'P' => RICH_OK,
-            b'X' | b'L' | b'T' => "NO 41 2 00002 04",
+            b'X' | b'L' | b'T' | b'C' => "NO 41 2 00002 04",
             b' ' => "NO 24 1 00005 02",
             _ if in_a => "NO 25 1 00005 02",
             _ => "NO 23 1 00005 02",
@@ -496,13 +502,117 @@ fn r12_a_blank_line_id_is_the_line_of_the_tramos_own_id() {
 }
 
 #[test]
-fn r13_composites_and_perimeters_have_no_file() {
+fn r13_perimeters_have_no_file() {
     for id in [&b"0000000000"[..], b"0000000001"] {
-        assert_eq!(of_rich(|f| set(f, 2, 2, 2, id)), "NO 40 2 00002 02");
-        assert_eq!(of_rich(|f| set(f, 3, 1, 2, id)), "NO 40 3 00001 02");
-        assert_eq!(of_rich(|f| set(f, 4, 2, 2, id)), "NO 40 4 00002 02");
         assert_eq!(of_rich(|f| set(f, 5, 3, 3, id)), "NO 40 5 00003 03");
     }
+}
+
+#[test]
+fn w204_composite_ids_resolve_in_file_8() {
+    for (file, record) in [(2, 2), (3, 1), (4, 2)] {
+        // 9 and 0 are there, and a text may name either, or none.
+        for id in [&b"0000000009"[..], b"0000000000", b""] {
+            let said = of_rich(|f| {
+                set(f, file, record, 2, id);
+                set(f, 2, 3, 2, b"0000000000");
+            });
+            assert_eq!(said, RICH_OK);
+        }
+        // 1 and 2 are linear objects, 7 is a point, 3 a node and a tramo.
+        for id in [
+            &b"0000000001"[..],
+            b"0000000002",
+            b"0000000003",
+            b"0000000007",
+        ] {
+            let said = of_rich(|f| set(f, file, record, 2, id));
+            assert_eq!(said, format!("NO 40 {file} {record:05} 02"));
+        }
+        let absent = of_rich(|f| {
+            f[7].clear();
+            for (other, record) in [(2, 1), (3, 1), (4, 1), (4, 2)] {
+                if other != file {
+                    set(f, other, record, 2, b"");
+                }
+            }
+        });
+        assert!(absent.starts_with(&format!("NO 40 {file} ")), "{absent}");
+    }
+    // A composite is none of the other files' objects: no tramo names one.
+    let linear = of_rich(|f| set(f, 5, 1, 2, b"0000000009"));
+    assert_eq!(linear, "NO 40 5 00001 02");
+}
+
+#[test]
+fn w204_a_composite_is_named_by_an_object_of_any_file() {
+    let none = |f: &mut Files| {
+        for (file, record) in [(2, 1), (3, 1), (4, 1)] {
+            set(f, file, record, 2, b"");
+        }
+    };
+    assert_eq!(of_rich(none), "NO 70 8 00001 00");
+    for (file, record) in [(2, 3), (3, 1), (4, 1)] {
+        let one = of_rich(|f| {
+            none(f);
+            set(f, file, record, 2, b"0000000009");
+        });
+        assert_eq!(one, RICH_OK);
+    }
+    assert_eq!(of_rich(|f| set(f, 4, 2, 2, b"")), "NO 70 8 00002 00");
+    // A blank id is none: it doesn't name the composite 0.
+    let blank = of_rich(|f| {
+        none(f);
+        set(f, 4, 2, 2, b"");
+        f[7].rotate_left(117);
+    });
+    assert_eq!(blank, "NO 70 8 00001 00");
+}
+
+#[test]
+fn w204_70_stands_behind_the_fifties() {
+    let both = of_rich(|f| {
+        set(f, 4, 2, 2, b"");
+        set(f, 7, 3, 2, b"E");
+    });
+    assert_eq!(both, "NO 58 7 00003 02");
+    let alone = of_rich(|f| {
+        set(f, 4, 2, 2, b"");
+        set(f, 7, 3, 2, b"A");
+    });
+    assert_eq!(alone, "NO 70 8 00002 00");
+}
+
+#[test]
+fn w204_file_8_is_the_last_of_each_ten() {
+    let mut files = rich();
+    set(&mut files, 4, 2, 2, b"");
+    set(&mut files, 8, 2, 2, b"0200000");
+    assert_eq!(said(&files), "NO 41 8 00002 02");
+    set(&mut files, 8, 1, 2, b"7777777");
+    assert_eq!(said(&files), "NO 40 8 00001 02");
+    set(&mut files, 6, 1, 1, b"0000000099");
+    assert_eq!(said(&files), "NO 40 6 00001 01");
+    set(&mut files, 8, 2, 1, b"0000000009");
+    assert_eq!(said(&files), "NO 30 8 00002 01");
+    node(&mut files, 5, 1, 1, None);
+    assert_eq!(said(&files), "NO 30 7 00006 01");
+    set(&mut files, 8, 2, 4, b"-");
+    assert_eq!(said(&files), "NO 24 8 00002 05");
+    set(&mut files, 7, 6, 3, b"*");
+    assert_eq!(said(&files), "NO 25 7 00006 03");
+    files[7].push(b' ');
+    assert_eq!(said(&files), "NO 11 8 00003 00");
+    files[6].push(b' ');
+    assert_eq!(said(&files), "NO 11 7 00007 00");
+}
+
+#[test]
+fn w204_the_letter_of_surfaces_stays_outside() {
+    let letter = |tipo: &'static [u8]| of_small(|f| add(f, 1, &[(1, b"8"), (2, tipo)]));
+    assert_eq!(letter(b"C"), S_OK.replace("OK 00002", "OK 00003"));
+    assert_eq!(letter(b"S"), "NO 25 1 00003 02");
+    assert_eq!(letter(b"c"), "NO 25 1 00003 02");
 }
 
 #[test]
@@ -512,10 +622,17 @@ fn codes_are_catalogued_under_their_files_type() {
         (3, 3, b"0300000"),
         (4, 3, b"0100000"),
         (5, 5, b"0100001"),
+        (8, 2, b"0400000"),
     ] {
         let unknown = of_rich(|f| set(f, file, 1, field, b"7777777"));
         assert_eq!(unknown, format!("NO 40 {file} 00001 {field:02}"));
-        for code in [&b"0100000"[..], b"0100001", b"0200000", b"0300000"] {
+        for code in [
+            &b"0100000"[..],
+            b"0100001",
+            b"0200000",
+            b"0300000",
+            b"0400000",
+        ] {
             let said = of_rich(|f| set(f, file, 1, field, code));
             if code == own {
                 assert_eq!(said, RICH_OK);
@@ -705,7 +822,7 @@ fn coded(node: usize, code: u8) -> String {
 
 #[test]
 fn w203_each_code_at_each_kind_of_node() {
-    let ok = "OK 00003 00002 00000 00001 00002 00006 00006";
+    let ok = "OK 00003 00002 00000 00001 00002 00006 00006 00000";
     for (node, agreeing) in [
         (1, b"EC"),
         (2, b"EC"),
@@ -814,6 +931,7 @@ fn centroids_and_texts_lie_anywhere() {
         place(f, 3, 1, 9, -5, -6, Some(-7));
         place(f, 4, 2, 5, -5, -6, Some(-7));
         place(f, 2, 2, 8, -5, -6, Some(-7));
+        place(f, 8, 2, 4, -5, -6, Some(-7));
     });
     assert_eq!(said, RICH_OK);
 }
@@ -830,6 +948,10 @@ fn big_goes_before_everything() {
     assert_eq!(said(&files), "NO 11 7 00164 00");
     files[6].push(0);
     assert_eq!(said(&files), "BIG 7");
+    files[7] = vec![0; 8_193];
+    assert_eq!(said(&files), "BIG 7");
+    files[6].clear();
+    assert_eq!(said(&files), "BIG 8");
     files[3] = vec![0; 8_193];
     files[1] = vec![0; 8_192];
     assert_eq!(program_line(lent(&files)), "BIG 4\n");
@@ -837,7 +959,7 @@ fn big_goes_before_everything() {
 
 #[test]
 fn too_long_goes_before_ragged() {
-    for file in 1..=7 {
+    for file in 1..=FILES {
         let mut files = Files::default();
         let length = LENGTHS[file - 1];
         let verdict = |files: &Files| match judge(lent(files)) {
@@ -872,7 +994,7 @@ fn as_many_records_as_allowed_are_judged() {
     }
     assert_eq!(
         judge(lent(&files)),
-        Verdict::Accepted([2, 0, 0, 1, 1, 16_384, 2])
+        Verdict::Accepted([2, 0, 0, 1, 1, 16_384, 2, 0])
     );
     set(&mut files, 6, 16_000, 1, b"0000000002");
     let found = Break {
@@ -902,6 +1024,8 @@ fn r16_free_words_change_no_verdict() {
     let points_and_texts = of_rich(|f| {
         set(f, 2, 1, 5, b"x");
         set(f, 3, 1, 4, b"NO");
+        set(f, 8, 1, 3, b"");
+        set(f, 8, 2, 3, b"a|b");
     });
     assert_eq!(points_and_texts, RICH_OK);
 }

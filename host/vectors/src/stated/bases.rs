@@ -1,7 +1,7 @@
 //! The lawful deliveries that samples are made from, row by row.
 
 use crate::draft::Rows;
-use deliveries::{CATALOGO, NODO, OB_LIN, OB_PUN, OB_TEX, TRAMO, VERTICE};
+use deliveries::{CATALOGO, NODO, OB_COMP, OB_LIN, OB_PUN, OB_TEX, TRAMO, VERTICE};
 
 /// Document 01's small delivery S.
 pub(super) const S: &Rows = &[
@@ -261,6 +261,70 @@ pub(super) const OBJECTS: &Rows = &[
     (OB_TEX, "1;;0300000;;1;;0;5;1;1;"),
 ];
 
+/// The objects of source 000's example 10.3 (lines 3677 to 3704) but for its
+/// surfaces, with their codes and the node of both points, and + for the signs
+/// that aren't printed. It prints 0 for objects of no composite.
+pub(super) const COMPOSITE_OF_10_3: &Rows = &[
+    (CATALOGO, "0190000;X;TOPONIMO TEMA1;Anotacion generica"),
+    (
+        CATALOGO,
+        "0512700;P;ERMITA;Edificio religioso catolico aislado",
+    ),
+    (
+        CATALOGO,
+        "1010600;P;VERTICE GEOD ORDEN 1;Punto de coordenadas geodesicas",
+    ),
+    (
+        CATALOGO,
+        "0300100;C;LAGO COMPUESTO;Lago compuesto de varios lagos simples",
+    ),
+    (OB_PUN, "1;0;6;0512700;Ermita del Santo;0;0;3;2;"),
+    (OB_PUN, "2;0;6;1010600;Almudena;0;0;3;2;"),
+    (OB_TEX, "1;0;0190000;HOLA;1;1;0;1;2;6;"),
+    (NODO, "6;A;3;2;"),
+    (OB_COMP, "1;0300100;Lago Mayor;0;0;"),
+];
+
+/// Two pits, each of a composite of its own, and nothing else.
+pub(super) const PITS: &Rows = &[
+    (CATALOGO, "0200000;P;POZO;"),                            // 1
+    (CATALOGO, "0500000;C;DESAGUE;Pozos y tubos de una red"), // 2
+    (OB_PUN, "1;9;;0200000;;;;0;0;"),                         // 1
+    (OB_PUN, "2;0;;0200000;;;;10;0;"),                        // 2
+    (OB_COMP, "9;0500000;Red del norte;5;0;-2"),              // 1
+    (OB_COMP, "0;0500000;;;;"),                               // 2
+];
+
+/// Pits and pipes, some of them grouped: a composite of all three sorts of
+/// objects, and one of each sort alone. No composite has the id of an object,
+/// a tramo or a node. Each row's record number stands behind it.
+pub(super) const DRAINS: &Rows = &[
+    (CATALOGO, "0100000;L;TUBO;"),                            // 1
+    (CATALOGO, "0100001;T;TUBO;Tramo de tubo"),               // 2
+    (CATALOGO, "0200000;P;POZO;"),                            // 3
+    (CATALOGO, "0300000;X;ROTULO;"),                          // 4
+    (CATALOGO, "0500000;C;DESAGUE;Pozos y tubos de una red"), // 5
+    (OB_PUN, "1;9;;0200000;Pozo 1;;;0;0;"),                   // 1
+    (OB_PUN, "2;4;;0200000;Pozo 2;;;10;0;"),                  // 2
+    (OB_TEX, "1;9;0300000;NORTE;1;;;5;5;5;"),                 // 1
+    (OB_TEX, "2;0;0300000;SUR;1;;;5;5;-5;"),                  // 2
+    (OB_LIN, "1;9;0100000;Tubo 1;;;"),                        // 1
+    (OB_LIN, "2;7;0100000;Tubo 2;;;"),                        // 2
+    (TRAMO, "1;1;;;0100001;1;2;"),                            // 1
+    (TRAMO, "2;2;;;0100001;2;3;"),                            // 2
+    (VERTICE, "1;1;0;0;"),                                    // 1
+    (VERTICE, "1;2;10;0;"),                                   // 2
+    (VERTICE, "2;1;10;0;"),                                   // 3
+    (VERTICE, "2;2;20;0;"),                                   // 4
+    (NODO, "1;;0;0;"),                                        // 1
+    (NODO, "2;;10;0;"),                                       // 2
+    (NODO, "3;;20;0;"),                                       // 3
+    (OB_COMP, "9;0500000;Red del norte;5;0;-2"),              // 1  of all three
+    (OB_COMP, "0;0500000;;;;"),                               // 2  of a text
+    (OB_COMP, "4;0500000;ND;0;-7;"),                          // 3  of a point object
+    (OB_COMP, "7;0500000;Red|sur;-15;0;0"),                   // 4  of a linear object
+];
+
 /// A richer lawful delivery, for most samples. Each row's record number stands
 /// behind it.
 #[rustfmt::skip]
@@ -324,16 +388,22 @@ pub(super) const RICH: &Rows = &[
 ];
 
 /// S's line.
-pub(super) const S_OK: &str = "OK 00002 00000 00000 00001 00001 00002 00002";
+pub(super) const S_OK: &str = "OK 00002 00000 00000 00001 00001 00002 00002 00000";
 
 /// The richer delivery's line.
-pub(super) const RICH_OK: &str = "OK 00009 00004 00003 00004 00007 00021 00008";
+pub(super) const RICH_OK: &str = "OK 00009 00004 00003 00004 00007 00021 00008 00000";
 
 /// The line of the nodes of each kind.
-pub(super) const KINDS_OK: &str = "OK 00002 00000 00000 00001 00002 00006 00005";
+pub(super) const KINDS_OK: &str = "OK 00002 00000 00000 00001 00002 00006 00005 00000";
 
 /// The isolated node's line.
-pub(super) const ALONE_OK: &str = "OK 00001 00002 00000 00000 00000 00000 00001";
+pub(super) const ALONE_OK: &str = "OK 00001 00002 00000 00000 00000 00000 00001 00000";
 
 /// The line of the two objects.
-pub(super) const OBJECTS_OK: &str = "OK 00002 00001 00001 00000 00000 00000 00000";
+pub(super) const OBJECTS_OK: &str = "OK 00002 00001 00001 00000 00000 00000 00000 00000";
+
+/// The line of the two pits.
+pub(super) const PITS_OK: &str = "OK 00002 00002 00000 00000 00000 00000 00000 00002";
+
+/// The drains' line.
+pub(super) const DRAINS_OK: &str = "OK 00005 00002 00002 00002 00002 00004 00003 00004";

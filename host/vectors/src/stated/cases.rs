@@ -10,7 +10,7 @@ pub(super) fn cases() -> Vec<Stated> {
         Stated::over(
             EXAMPLE,
             "ejemplo-10-2",
-            "OK 00007 00002 00001 00004 00006 00016 00006",
+            "OK 00007 00002 00001 00004 00006 00016 00006 00000",
             |_| {},
         ),
         // Its tramos under - are turned round, which R01 doesn't do; 12 and 14 don't
@@ -25,7 +25,7 @@ pub(super) fn cases() -> Vec<Stated> {
         Stated::over(
             NODES_OF_10_4,
             "ejemplo-10-4-nodos",
-            "OK 00003 00002 00000 00001 00006 00016 00006",
+            "OK 00003 00002 00000 00001 00006 00016 00006 00000",
             |_| {},
         ),
         // H for nodes 3 and 4. Every tramo is cut there and no line has another
@@ -40,7 +40,7 @@ pub(super) fn cases() -> Vec<Stated> {
         Stated::over(
             &[],
             "case-01",
-            "OK 00000 00000 00000 00000 00000 00000 00000",
+            "OK 00000 00000 00000 00000 00000 00000 00000 00000",
             |_| {},
         ),
         s("case-02", S_OK, |_| {}),

@@ -5,7 +5,7 @@
 //! 000 say; `ejemplo-10-3-nodos` and its like, the nodes and lines of source
 //! 000's other examples; `rich`, the lawful delivery that most others damage;
 //! `rNN-..`, refused with reason NN first; `ok-..`, near misses that stay
-//! accepted.
+//! accepted. composites.rs has all that is about OB_COMP, whatever the reason.
 //!
 //! Fields by number, for reading the damage; a place is the six fields sign, X,
 //! sign, Y, sign, Z:
@@ -19,9 +19,11 @@
 //! | TRAMO | 1 id, 2 linear object, 3 perimeter, 4 line, 5 CODIGO, 6 start, 7 end, 8 sense |
 //! | VERTICE | 1 line, 2 order, 3 to 8 place |
 //! | NODO | 1 id, 2 TIPO, 3 to 8 place |
+//! | OB_COMP | 1 id, 2 CODIGO, 3 name, 4 to 9 centroid |
 
 mod bases;
 mod cases;
+mod composites;
 mod fields;
 mod keys;
 mod near;
@@ -29,7 +31,7 @@ mod shape;
 mod topology;
 
 use crate::draft::{Draft, Rows};
-use bases::{ALONE, KINDS, OBJECTS, RICH, S};
+use bases::{ALONE, DRAINS, KINDS, OBJECTS, PITS, RICH, S};
 use deliveries::{Files, VERTICE};
 
 /// A delivery and the line that it should give, without its line feed.
@@ -39,7 +41,7 @@ pub struct Stated {
     pub files: Files,
 }
 
-/// All of them, in the order of their reasons.
+/// All of them, in the order of their reasons but for those of OB_COMP.
 pub fn stated() -> Vec<Stated> {
     let groups = [
         cases::cases(),
@@ -67,6 +69,11 @@ pub fn stated() -> Vec<Stated> {
         topology::reason_58(),
         near::near_misses(),
         near::near_codes_and_domains(),
+        composites::examples(),
+        composites::damaged_records(),
+        composites::keys_and_references(),
+        composites::reason_70(),
+        composites::near_misses(),
     ];
     groups.into_iter().flatten().collect()
 }
@@ -94,6 +101,16 @@ fn alone(name: &'static str, line: &'static str, damage: fn(&mut Draft)) -> Stat
 /// The point object and the text with a damage.
 fn objects(name: &'static str, line: &'static str, damage: fn(&mut Draft)) -> Stated {
     Stated::over(OBJECTS, name, line, damage)
+}
+
+/// The two pits and their composites with a damage.
+fn pits(name: &'static str, line: &'static str, damage: fn(&mut Draft)) -> Stated {
+    Stated::over(PITS, name, line, damage)
+}
+
+/// The drains and their composites with a damage.
+fn drains(name: &'static str, line: &'static str, damage: fn(&mut Draft)) -> Stated {
+    Stated::over(DRAINS, name, line, damage)
 }
 
 impl Stated {

@@ -33,7 +33,7 @@ pub(super) fn near_misses() -> Vec<Stated> {
         }),
         s(
             "ok-code-that-nobody-uses",
-            "OK 00004 00000 00000 00001 00001 00002 00002",
+            "OK 00004 00000 00000 00001 00001 00002 00002 00000",
             |d| {
                 d.add(CATALOGO, "0100002;P;;");
                 d.add(CATALOGO, "NAD;X;;");
@@ -41,7 +41,7 @@ pub(super) fn near_misses() -> Vec<Stated> {
         ),
         s(
             "ok-catalogue-alone",
-            "OK 00002 00000 00000 00000 00000 00000 00000",
+            "OK 00002 00000 00000 00000 00000 00000 00000 00000",
             |d| {
                 for file in [OB_LIN, TRAMO, VERTICE, NODO] {
                     d.records[file].clear();
@@ -59,7 +59,7 @@ pub(super) fn near_misses() -> Vec<Stated> {
         }),
         rich(
             "ok-nodes-at-one-place-by-z",
-            "OK 00009 00004 00003 00004 00007 00021 00011",
+            "OK 00009 00004 00003 00004 00007 00021 00011 00000",
             |d| {
                 // at node 2's X and Y: Z 0, -7 and 8 besides 7 and none
                 d.add(NODO, "30;;140;200;0");
@@ -83,7 +83,7 @@ pub(super) fn near_misses() -> Vec<Stated> {
         }),
         s(
             "ok-orders-10-and-2-the-wrong-way-round",
-            "OK 00002 00000 00000 00001 00001 00010 00002",
+            "OK 00002 00000 00000 00001 00001 00010 00002 00000",
             |d| {
                 // line 1 with ten vertices, 10 first in the file and 2 last
                 d.records[VERTICE].swap(0, 1);
@@ -198,7 +198,7 @@ pub(super) fn near_misses() -> Vec<Stated> {
         }),
         s(
             "ok-line-of-two-vertices-at-one-place",
-            "OK 00002 00000 00000 00001 00001 00002 00001",
+            "OK 00002 00000 00000 00001 00001 00002 00001 00000",
             |d| {
                 d.place(VERTICE, 2, 100, 200, None);
                 d.num(TRAMO, 1, 7, 1);
@@ -216,7 +216,7 @@ pub(super) fn near_misses() -> Vec<Stated> {
         }),
         rich(
             "ok-points-texts-and-nodes-without-lines",
-            "OK 00009 00004 00003 00000 00000 00000 00002",
+            "OK 00009 00004 00003 00000 00000 00000 00002 00000",
             |d| {
                 for file in [OB_LIN, TRAMO, VERTICE] {
                     d.records[file].clear();
@@ -252,7 +252,7 @@ pub(super) fn near_codes_and_domains() -> Vec<Stated> {
         }),
         alone(
             "ok-isolated-node-of-three-points",
-            "OK 00001 00003 00000 00000 00000 00000 00001",
+            "OK 00001 00003 00000 00000 00000 00000 00001 00000",
             |d| {
                 d.add(OB_PUN, "3;;1;0200000;;;;50;50;7");
                 d.put(NODO, 1, 2, b"A");
@@ -260,7 +260,7 @@ pub(super) fn near_codes_and_domains() -> Vec<Stated> {
         ),
         kinds(
             "ok-second-node-at-an-end-and-between",
-            "OK 00002 00000 00000 00001 00002 00006 00007",
+            "OK 00002 00000 00000 00001 00002 00006 00007 00000",
             |d| {
                 // by X and Y they are what the nodes below them are
                 d.add(NODO, "6;E;0;0;9");
@@ -269,7 +269,7 @@ pub(super) fn near_codes_and_domains() -> Vec<Stated> {
         ),
         s(
             "ok-end-that-its-own-line-passes",
-            "OK 00002 00000 00000 00001 00001 00003 00002",
+            "OK 00002 00000 00000 00001 00001 00003 00002 00000",
             |d| {
                 pass_own_start(d);
                 d.put(NODO, 1, 2, b"H");
@@ -278,7 +278,7 @@ pub(super) fn near_codes_and_domains() -> Vec<Stated> {
         ),
         kinds(
             "ok-one-point-on-an-intermediate-node",
-            "OK 00003 00001 00000 00001 00002 00006 00005",
+            "OK 00003 00001 00000 00001 00002 00006 00005 00000",
             |d| {
                 d.add(CATALOGO, "0200000;P;;");
                 d.add(OB_PUN, "1;;5;0200000;;;;5;0;");
