@@ -1,5 +1,9 @@
 -- `objects::composites::mark_named_by` meets its contract.
 -- Assumes nothing.
+use mathlib.Core.List.{map}
+use denote.Ref.{now}
+use Rattle.record.specs.Files.{filesOf}
+use Rattle.keys.proofs.LentLaws.{table-room}
 use Rattle.objects.specs.Rules.{namedBy}
 use borrow.Author.Needs.{needs}
 use Rattle.objects.proofs.composites.mark_named_by.Statement.{statement}
@@ -13,7 +17,7 @@ mark-used-requires c κs =
     let c2 = c .before .before in
     let c8 = c2 .before .before .before .before .before .before in
     let p = c8 .pre in
-    (p .0, p .1, rw (← c2 .file-of .ensures) at (p .2))
+    (p .0, p .1, table-room (filesOf (map now (c8 .args .files))) (c2 .file-of .ensures) (p .2))
 
 same-length : tie.Need-same-length
 same-length c = search needs

@@ -1,8 +1,12 @@
 -- `objects::composites::tally_composites` meets its contract. 70's cell, and no other of the file has a rule.
 -- Assumes nothing.
+use mathlib.Core.List.{map}
 use native.Mathlib.Omega.{arith}
+use denote.Ref.{now}
 use Rattle.record.specs.declared.kind.Kind.the-variants.{ObComp}
+use Rattle.record.specs.Files.{filesOf}
 use Rattle.record.proofs.ColumnLaws.{read-fills}
+use Rattle.keys.proofs.LentLaws.{table-room}
 use Rattle.objects.proofs.SeventyLaws.{composites-tally}
 use borrow.Author.Needs.{needs}
 use Rattle.objects.proofs.composites.tally_composites.Statement.{statement}
@@ -20,7 +24,7 @@ prepare-requires c κs =
     let c7 = c5 .before .before in
     let c14 = c7 .before .before .before .before .before .before .before in
     let p = c14 .pre in
-    let n = rw (← c7 .file-of .ensures) at (p .0 ObComp) in
+    let n = table-room (filesOf (map now (c14 .args .files))) (c7 .file-of .ensures) (p .0 ObComp) in
     let f = read-fills (omega (arith, n, p .1)) (c5 .fill-names .ensures) in
     (omega (arith, f .count, f .small), omega (arith, f .count, f .long), omega (arith, f .count, n, p .2))
 
@@ -31,7 +35,7 @@ mark-idle-composites-requires c κs =
     let c18 = c16 .before .before in
     let c25 = c18 .before .before .before .before .before .before .before in
     let p = c25 .pre in
-    let n = rw (← c18 .file-of .ensures) at (p .0 ObComp) in
+    let n = table-room (filesOf (map now (c25 .args .files))) (c18 .file-of .ensures) (p .0 ObComp) in
     let f = read-fills (omega (arith, n, p .1)) (c16 .fill-names .ensures) in
     (c10 .prepare .ensures, rw (c18 .file-of .ensures) at f, omega (arith, f .count, n, p .4), omega (arith, f .count, n, p .5), λ k. omega (arith, p .0 k, p .3))
 
@@ -46,7 +50,7 @@ with-marks-requires c κs =
     let c27 = c25 .before .before in
     let c34 = c27 .before .before .before .before .before .before .before in
     let p = c34 .pre in
-    let n = rw (← c27 .file-of .ensures) at (p .0 ObComp) in
+    let n = table-room (filesOf (map now (c34 .args .files))) (c27 .file-of .ensures) (p .0 ObComp) in
     let f = read-fills (omega (arith, n, p .1)) (c25 .fill-names .ensures) in
     (rw (c1 .no-tally .ensures) (omega arith), omega (arith, f .count, n, p .5, c8 .mark-idle-composites .ensures .long), omega (arith, f .count, f .small))
 
@@ -76,7 +80,7 @@ returns c =
     let c28 = c26 .before .before in
     let c35 = c28 .before .before .before .before .before .before .before in
     let p = c35 .pre in
-    let n = rw (← c28 .file-of .ensures) at (p .0 ObComp) in
+    let n = table-room (filesOf (map now (c35 .args .files))) (c28 .file-of .ensures) (p .0 ObComp) in
     let f = read-fills (omega (arith, n, p .1)) (c26 .fill-names .ensures) in
     composites-tally _ (rw (c28 .file-of .ensures) at (f .count)) (c2 .no-tally .ensures) (c9 .mark-idle-composites .ensures) (c .with-marks .ensures)
 
