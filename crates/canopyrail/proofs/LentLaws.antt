@@ -1,139 +1,202 @@
--- Lent memory filled place by place.
+-- Lent memory filled with a record's values, and values taken from it.
 -- Assumes nothing.
-use Prim.Native.Nat.{ℕ, _+_, _*_, _-_, _<_, _≤_}
-use mathlib.Core.Bool.{true, false, not, _&&_}
-use mathlib.Core.List.{List, _++_, append-assoc}
+use Prim.Native.Nat.{ℕ, zero, suc, _+_, _*_, _-_, _/_, _<_, _≤_}
+use mathlib.Core.Bool.{Bool, true, false, not, _&&_, and-false}
+use mathlib.Core.List.{List, _∷_}
 use mathlib.Core.Path.{_≡_, refl, sym, ap, ap₂, _∙_, subst}
+use native.Mathlib.Nat.{not-suc-le-zero}
 use native.Mathlib.Numerals.{add-one}
+use native.Mathlib.Decide.{decLt}
 use native.Mathlib.Omega.{arith}
-use lib.Dec.{eqb, ltb}
-use borrow.Author.Tests.{ltb-true, ltb-false, not-true}
+use lib.Dec.{eqb, ltb, leb}
+use borrow.Author.Tests.{ltb-true, ltb-false, leb-true, lt-ltb, le-ltb, le-leb, lt-leb, not-true}
 use lib.IntN.{ℤ, pos}
-use lib.ListN.{length, getD, take, drop, set, length-set, take-append-drop, length-append}
-use lib.Seq.{drop-set-lt, drop-drop, take-length, take-at, length-take-le}
-use borrow.Rule.Slice.PartMut.{putMid, midOf, same-len-mid, mid-len, drop-put}
-use Rattle.laws.specs.Row.{strung}
-use Rattle.laws.proofs.RowLaws.{and-true}
-use Rattle.field.specs.Texts.{padded, firstBytes}
-use Rattle.field.proofs.TextLaws.{first-bytes-le}
+use lib.ListN.{length, getD, take, drop, set, length-take, length-drop, List·getD-eq-default}
+use lib.Seq.{take-at, getD-take, length-take-le}
+use borrow.Rule.Slice.PartMut.{putMid, midOf}
+use Rattle.laws.specs.Row.{pick, row, each}
+use Rattle.laws.proofs.RowLaws.{and-true, row-at}
+use Rattle.field.specs.declared.class.Class.the-variants.{Blank}
+use Rattle.field.specs.Bytes.{allOf, blanks}
+use Rattle.field.specs.Texts.{padded, firstBytes, trimmed}
+use Rattle.field.proofs.TextLaws.{padded-empty}
+use Rattle.field.proofs.TextLoops.{length-padded}
+use Rattle.record.specs.declared.kind.Kind.{Kind}
+use Rattle.record.specs.declared.kind.Form.{Form}
+use Rattle.record.specs.declared.kind.Form.the-variants.{Words, Code, Sign, Number, Size}
+use Rattle.record.specs.declared.kind.Which.{Which}
+use Rattle.record.specs.declared.kind.Which.the-variants.{NoFile, File}
 use Rattle.record.specs.declared.reason.Reason.{Reason}
-use Rattle.record.specs.declared.reason.Reason.the-variants as R
-use Rattle.record.specs.declared.reason.Reason.the-variants.{ShortRoom61}
-use Rattle.record.specs.Table.{mostFields, widest}
+use Rattle.record.specs.declared.reason.Reason.the-variants.{NoFile60, ShortRoom61}
+use Rattle.record.specs.Table.{Col, formAt, widthAt, offsetAt, fieldsOf, mostFields, widest, whichOf}
+use Rattle.record.specs.Cut.{textOf}
+use Rattle.record.specs.Says.{Said, missing, number, text, coordinate, saidAs, saidIn}
+use Rattle.record.proofs.TableLaws.{sane, col-past}
 use Rattle.codec.specs.declared.values.Value.{Value}
 use Rattle.codec.specs.declared.values.Values.{Values}
 use Rattle.codec.specs.declared.values.Answer.{Answer}
-use Rattle.codec.specs.Values.{valueAt}
 use Rattle.codec.specs.declared.values.Answer.the-variants.{Done, Refused}
 use Rattle.codec.specs.declared.values.Reading.{Reading}
-use Rattle.codec.specs.Calls.{Writes, readOf}
-use Rattle.grids.proofs.FillLaws.{Putting, putting-start, putting-more, putting-end}
+use Rattle.codec.specs.Values.{noValue, saidBy, textValue, valueOf, valueAt, valuesSay, valuesIn}
+use Rattle.codec.specs.Calls.{Writes, readIn, readOf}
+use Rattle.codec.specs.machinery.Held.{valueBy, textHeld, heldAt, sayBy, SaySame, heldLength, wordsOf}
+use Rattle.codec.proofs.ReadLaws.{read-field, words-as}
+use Rattle.codec.proofs.StoreLaws.{Storing, storing-more, storing-end, textNo, whole-text}
 use Rattle.canopyrail.specs.Answers.{refusalWord, answerWord}
-use Rattle.canopyrail.specs.Lent.{textRoom, lentLength, Holds, isLent, heldValue, WritesLent, roomy, readAnswer, Reads}
+use Rattle.canopyrail.specs.Lent.{textRoom, lentLength, Holds, isLent, heldValue, lentValue, lentValues, WritesLent, roomy, readAnswer, Reads}
 use Rattle.canopyrail.proofs.CallLaws.{refusal-told}
 
--- TEXTS as long as the widest field, one after the other
-pub record Stringing (g : ℕ → List ℕ) (before out : List ℕ) (i : ℕ) : Type 0 where
-  pub long : length out ≡ length before
-  pub put : take (widest * i) out ≡ strung g i
-  pub rest : drop (widest * i) out ≡ drop (widest * i) before
+-- A RECORD'S VALUES put into lent memory, field by field
+value-no : (s : List ℕ) (k : Kind) (i : ℕ) → i < mostFields → valueAt (valuesIn s k) (i + 1) ≡ valueOf (saidIn s k (i + 1))
+unfolding valueAt valuesIn
+value-no s k i h = rw add-one (row-at (λ j. valueOf (saidIn s k (j + 1))) mostFields noValue h ∙ ap (λ (f : ℕ). valueOf (saidIn s k f)) (add-one i))
 
-module _ (g : ℕ → List ℕ) (before : List ℕ) where
-  pub stringing-start : Stringing g before before 0
-  unfolding strung
-  stringing-start = record { long = refl; put = refl; rest = refl }
+nothing-past : (s : List ℕ) (k : Kind) (f : ℕ) → fieldsOf k < f → saidIn s k f ≡ missing
+unfolding saidIn saidAs textOf formAt widthAt allOf each
+nothing-past s k f l =
+    let form : formAt k f ≡ Words = ap (λ (c : Col). c .form) (col-past k f l) in
+    let wide : widthAt k f ≡ 0 = ap (λ (c : Col). c .width) (col-past k f l) in
+    ap₂ (λ (x : Form) (w : ℕ). saidAs x (take w (drop (offsetAt k f) s)) (textOf s k (f - 1))) form wide
 
-  pub stringing-more :
-      {out ys : List ℕ} {i : ℕ} → widest * i + widest ≤ length before → Stringing g before out i → length ys ≡ length (midOf (widest * i) (widest * i + widest - widest * i) out)
-      → ys ≡ g i → Stringing g before (putMid (widest * i) (widest * i + widest - widest * i) out ys) (i + 1)
-  unfolding strung
-  stringing-more {out} {ys} {i} l p e h =
-      let w : length ys ≡ widest = e ∙ mid-len (widest * i) (widest * i + widest) out (omega (arith, p .long)) ∙ omega arith in
-      let q : widest * (i + 1) ≡ widest * i + widest = omega arith in
-      let tail = drop (widest * i + widest - widest * i) (drop (widest * i) out) in
-      let wide : length (take (widest * i) out ++ ys) ≡ widest * i + widest = simp (length-append, length-take-le (widest * i) out (omega (arith, p .long))) (omega arith) in
-      record {
-        long = same-len-mid (widest * i) (widest * i + widest - widest * i) out ys e ∙ p .long;
-        put =
-            rw q
-            (ap (take (widest * i + widest)) (sym (append-assoc (take (widest * i) out) ys tail)) ∙ take-at (take (widest * i) out ++ ys) tail (widest * i + widest) wide
-            ∙ rw add-one (ap₂ (λ (a b : List ℕ). a ++ b) (p .put) h));
-        rest = rw q (drop-put (widest * i) (widest * i + widest) out ys (omega arith) (omega (arith, p .long)) (w ∙ omega arith) ∙ sym (drop-drop widest (widest * i) out) ∙ ap (drop widest) (p .rest) ∙ drop-drop widest (widest * i) before);
-      }
+-- the length that is lent is that under which the value is held
+lent-held : (form : Form) (t b : List ℕ) → heldLength form (valueOf (saidAs form t b)) ≡ lentLength (valueOf (saidAs form t b))
+unfolding saidAs valueOf textValue lentLength
+lent-held form t b = by form
+  where
+    words : (x : Bool) → valueOf (pick x missing (text (trimmed t))) .len ≡ lentLength (valueOf (pick x missing (text (trimmed t))))
+    words true = refl
+    words false = there (length (trimmed t)) (eqb (length (trimmed t)) 0)
+      where
+        there : (n : ℕ) (x : Bool) → n ≡ pick (not x && x) 1 n
+        there n true = refl
+        there n false = refl
 
-  pub stringing-end : {out : List ℕ} {i n : ℕ} → i ≡ n → Stringing g before out i → out ≡ strung g n ++ drop (widest * n) before
-  stringing-end {out} {i} {n} e p = sym (take-append-drop (widest * i) out) ∙ ap₂ (λ (a b : List ℕ). a ++ b) (p .put) (p .rest) ∙ ap (λ (m : ℕ). strung g m ++ drop (widest * m) before) e
+    size : (x : Bool) (z : ℤ) → pick (valueOf (pick x missing (coordinate z)) .given) 1 0 ≡ lentLength (valueOf (pick x missing (coordinate z)))
+    size true z = refl
+    size false z = refl
 
--- THE FOUR of a record's values, field by field
-pub record Storing (v : Values) (n₀ : List ℕ) (c₀ : List ℤ) (l₀ t₀ : List ℕ) (n : List ℕ) (c : List ℤ) (l t : List ℕ) (i : ℕ) : Type 0 where
-  pub within : i ≤ mostFields
-  pub room : (mostFields ≤ length n₀) × (mostFields ≤ length c₀) × (mostFields ≤ length l₀) × (textRoom ≤ length t₀)
-  pub numbers : Putting (λ j. valueAt v (j + 1) .number) n₀ n i
-  pub coordinates : Putting (λ j. valueAt v (j + 1) .coordinate) c₀ c i
-  pub lengths : Putting (λ j. lentLength (valueAt v (j + 1))) l₀ l i
-  pub texts : Stringing (λ j. padded widest (firstBytes widest (valueAt v (j + 1) .text))) t₀ t i
+    digits : (x : Bool) (n : ℕ) → pick (valueOf (pick x missing (number n)) .given) 1 0 ≡ lentLength (valueOf (pick x missing (number n)))
+    digits true n = refl
+    digits false n = refl
 
-module _ (v : Values) (n₀ : List ℕ) (c₀ : List ℤ) (l₀ t₀ : List ℕ) where
-  pub storing-start : (mostFields ≤ length n₀) × (mostFields ≤ length c₀) × (mostFields ≤ length l₀) × (textRoom ≤ length t₀) → Storing v n₀ c₀ l₀ t₀ n₀ c₀ l₀ t₀ 0
-  storing-start room =
-      record {
-        within = omega arith;
-        room = room;
-        numbers = putting-start _ n₀;
-        coordinates = putting-start _ c₀;
-        lengths = putting-start _ l₀;
-        texts = stringing-start _ t₀;
-      }
+    by : (form : Form) → heldLength form (valueOf (saidAs form t b)) ≡ lentLength (valueOf (saidAs form t b))
+    by Words = words (allOf Blank t)
+    by Code = words (allOf Blank t)
+    by Sign = refl
+    by Number = digits (allOf Blank t) _
+    by Size = size (allOf Blank t) _
 
-  pub storing-more :
-      {n : List ℕ} {c : List ℤ} {l t ys : List ℕ} {i len : ℕ} {x : Value} {z : ℤ} → Storing v n₀ c₀ l₀ t₀ n c l t i → i < mostFields → x ≡ valueAt v (i + 1) → z ≡ x .coordinate → len ≡ lentLength x
-      → length ys ≡ length (midOf (widest * i) (widest * i + widest - widest * i) t) → ys ≡ padded (length (midOf (widest * i) (widest * i + widest - widest * i) t)) (firstBytes widest (x .text))
-      → Storing v n₀ c₀ l₀ t₀ (set n i (x .number)) (set c i z) (set l i len) (putMid (widest * i) (widest * i + widest - widest * i) t ys) (i + 1)
-  storing-more {t = t} {ys} {i} {x = x} s h e ez el ey eq =
-      let w : length (midOf (widest * i) (widest * i + widest - widest * i) t) ≡ widest = mid-len (widest * i) (widest * i + widest) t (omega (arith, s .texts .long, s .room)) ∙ omega arith in
-      record {
-        within = omega arith;
-        room = s .room;
-        numbers = putting-more _ n₀ (omega (arith, s .room)) (s .numbers) (ap (λ (y : Value). y .number) e);
-        coordinates = putting-more _ c₀ (omega (arith, s .room)) (s .coordinates) (ez ∙ ap (λ (y : Value). y .coordinate) e);
-        lengths = putting-more _ l₀ (omega (arith, s .room)) (s .lengths) (el ∙ ap lentLength e);
-        texts = stringing-more _ t₀ (omega (arith, s .room)) (s .texts) ey (eq ∙ ap₂ (λ (m : ℕ) (y : Value). padded m (firstBytes widest (y .text))) w e);
-      }
+text-wide : (x : Said) → length (valueOf x .text) ≡ widest
+unfolding valueOf textValue
+text-wide missing = refl
+text-wide (number n) = refl
+text-wide (text t) = length-padded widest t
+text-wide (coordinate z) = refl
 
-  pub storing-end :
-      {n : List ℕ} {c : List ℤ} {l t : List ℕ} {i : ℕ} → Storing v n₀ c₀ l₀ t₀ n c l t i → mostFields ≤ i → Holds v n₀ c₀ l₀ t₀ n c l t
-  storing-end {i = i} s h =
-      let e : i ≡ mostFields = omega (arith, s .within) in
-      record {
-        theNumbers = putting-end _ n₀ e (s .numbers);
-        theCoordinates = putting-end _ c₀ e (s .coordinates);
-        theLengths = putting-end _ l₀ e (s .lengths);
-        theTexts = stringing-end _ t₀ e (s .texts);
-      }
+abbrev pub Lending : List ℕ → Kind → List ℕ → List ℤ → List ℕ → List ℕ → List ℕ → List ℤ → List ℕ → List ℕ → ℕ → Type 0
+Lending s k =
+    Storing (λ j. valueAt (valuesIn s k) (j + 1) .number) (λ j. valueAt (valuesIn s k) (j + 1) .coordinate) (λ j. lentLength (valueAt (valuesIn s k) (j + 1)))
+    (textNo (valuesIn s k))
 
--- A VALUE TAKEN from lent memory
-pub value-lent :
-    (numbers : List ℕ) (coordinates : List ℤ) (lengths texts : List ℕ) (i : ℕ) {len number : ℕ} {coordinate : ℤ} {t text : List ℕ}
-    → len ≡ getD lengths i 0 → number ≡ getD numbers i 0 → coordinate ≡ getD coordinates i (pos 0) → t ≡ take widest (drop (widest * i) texts) → text ≡ padded widest (firstBytes (length t) t)
-    → record { given = not (eqb len 0); number = number; coordinate = coordinate; len = len; text = text } ≡ heldValue numbers coordinates lengths texts i
-unfolding heldValue
-value-lent numbers coordinates lengths texts i {len} {number} {coordinate} {t} {text} el en ec et ex =
-    let f : firstBytes (length t) t ≡ t = first-bytes-le (length t) t (omega arith) ∙ take-length t in
-    let x : text ≡ padded widest (take widest (drop (widest * i) texts)) = ex ∙ rw f (ap (padded widest) et) in
-    rw (el, en, ec, x)
+module _ (s : List ℕ) (k : Kind) (n₀ : List ℕ) (z₀ : List ℤ) (l₀ t₀ : List ℕ) where
+  pub lending-more :
+      {n : List ℕ} {z : List ℤ} {l t ys : List ℕ} {i len x : ℕ} {y : ℤ} (form : Form) (u b : List ℕ) → Lending s k n₀ z₀ l₀ t₀ n z l t i → i < mostFields
+      → form ≡ formAt k (i + 1) → u ≡ textOf s k (i + 1) → b ≡ textOf s k i
+      → x ≡ valueOf (saidAs form u b) .number → y ≡ valueOf (saidAs form u b) .coordinate → len ≡ heldLength form (valueOf (saidAs form u b))
+      → length ys ≡ length (midOf (widest * i) (widest * i + widest - widest * i) t) → ys ≡ padded (length (midOf (widest * i) (widest * i + widest - widest * i) t)) (wordsOf form (firstBytes len u))
+      → Lending s k n₀ z₀ l₀ t₀ (set n i x) (set z i y) (set l i len) (putMid (widest * i) (widest * i + widest - widest * i) t ys) (i + 1)
+  lending-more {i = i} {len} form u b h few ef eu eb ex ey el ek eq =
+      let here : valueOf (saidAs form u b) ≡ valueAt (valuesIn s k) (i + 1) = ap valueOf (read-field s k i ef eu eb) ∙ sym (value-no s k i few) in
+      storing-more _ _ _ _ n₀ z₀ l₀ t₀ (wordsOf form (firstBytes len u)) h few (ex ∙ ap (λ (a : Value). a .number) here) (ey ∙ ap (λ (a : Value). a .coordinate) here)
+      (el ∙ lent-held form u b ∙ ap lentLength here) ek eq
+      (words-as u b form el ∙ sym (whole-text (valueOf (saidAs form u b) .text) (text-wide (saidAs form u b))) ∙ ap (λ (a : Value). padded widest (firstBytes widest (a .text))) here)
 
--- arrays that reach a field have it
-pub lent-reach : (a b c d i : ℕ) → isLent a b c d i ≡ true → (i < a) × (i < b) × (i < c)
+  -- past the last field nothing is said
+  pub lending-none :
+      {n : List ℕ} {z : List ℤ} {l t ys : List ℕ} {i : ℕ} (u : List ℕ) → Lending s k n₀ z₀ l₀ t₀ n z l t i → i < mostFields → fieldsOf k ≤ i
+      → length ys ≡ length (midOf (widest * i) (widest * i + widest - widest * i) t) → ys ≡ padded (length (midOf (widest * i) (widest * i + widest - widest * i) t)) (firstBytes 0 u)
+      → Lending s k n₀ z₀ l₀ t₀ (set n i 0) (set z i (pos 0)) (set l i 0) (putMid (widest * i) (widest * i + widest - widest * i) t ys) (i + 1)
+  unfolding firstBytes valueOf lentLength
+  lending-none {i = i} u h few past ek eq =
+      let here : noValue ≡ valueAt (valuesIn s k) (i + 1) = sym (ap valueOf (nothing-past s k (i + 1) (omega arith))) ∙ sym (value-no s k i few) in
+      storing-more _ _ _ _ n₀ z₀ l₀ t₀ (firstBytes 0 u) h few (ap (λ (a : Value). a .number) here) (ap (λ (a : Value). a .coordinate) here) (ap lentLength here) ek eq
+      (padded-empty widest ∙ sym (whole-text (blanks widest) refl) ∙ ap (λ (a : Value). padded widest (firstBytes widest (a .text))) here)
+
+  pub lending-end :
+      {n : List ℕ} {z : List ℤ} {l t : List ℕ} {i : ℕ} → Lending s k n₀ z₀ l₀ t₀ n z l t i → mostFields ≤ i → Holds (valuesIn s k) n₀ z₀ l₀ t₀ n z l t
+  lending-end h few =
+      let e = storing-end _ _ _ _ n₀ z₀ l₀ t₀ h few in
+      record { theNumbers = e .numbers; theCoordinates = e .coordinates; theLengths = e .lengths; theTexts = e .texts }
+
+-- VALUES TAKEN where they lie: the fields that all four arrays reach
+pub below-both : (a b i : ℕ) → (a < b → ltb i a ≡ (ltb i a && ltb i b)) × (b ≤ a → ltb i b ≡ (ltb i a && ltb i b))
+below-both a b i = (λ l. go (ltb i a) refl l, λ l. stay (ltb i b) refl l)
+  where
+    go : (x : Bool) → ltb i a ≡ x → a < b → x ≡ (x && ltb i b)
+    go true e l = let h = ltb-true i a e in rw (lt-ltb i b (omega arith))
+    go false e l = refl
+
+    stay : (x : Bool) → ltb i b ≡ x → b ≤ a → x ≡ (ltb i a && x)
+    stay true e l = let h = ltb-true i b e in rw (lt-ltb i a (omega arith))
+    stay false e l = sym (and-false (ltb i a))
+
+pub text-reached : (t i : ℕ) → ltb i (t / widest) ≡ leb (widest * i + widest) t
+text-reached t i = go (decLt i (t / widest))
+  where
+    go : Dec (i < t / widest) → ltb i (t / widest) ≡ leb (widest * i + widest) t
+    go (yes l) = lt-ltb i (t / widest) l ∙ sym (le-leb (widest * i + widest) t (omega arith))
+    go (no l) = le-ltb i (t / widest) (omega arith) ∙ sym (lt-leb (widest * i + widest) t (omega arith))
+
+-- arrays that reach a field have its text
+lent-reach : (a b c d i : ℕ) → isLent a b c d i ≡ true → widest * i + widest ≤ d
 unfolding isLent
-lent-reach a b c d i e =
-    let p = and-true (ltb i a && ltb i b && ltb i c) _ e in
-    let q = and-true (ltb i a && ltb i b) (ltb i c) (p .0) in
-    let r = and-true (ltb i a) (ltb i b) (q .0) in
-    (ltb-true i a (r .0), ltb-true i b (r .1), ltb-true i c (q .1))
+lent-reach a b c d i e = leb-true (widest * i + widest) d (and-true (ltb i a && ltb i b && ltb i c) _ e .1)
+
+held-whole : (s : List ℕ) (m : ℕ) → m + widest ≤ length s → padded widest (take widest (drop m s)) ≡ take widest (drop m s)
+unfolding padded
+held-whole s m l =
+    let w : length (take widest (drop m s)) ≡ widest = length-take-le widest (drop m s) (simp length-drop (omega arith)) in
+    take-at (take widest (drop m s)) (blanks widest) widest w
+
+none-said : (form : Form) (n : ℕ) (z : ℤ) (t : List ℕ) → saidBy form (valueBy n z 0 t) ≡ saidBy form noValue
+none-said Words n z t = refl
+none-said Code n z t = refl
+none-said Sign n z t = refl
+none-said Number n z t = refl
+none-said Size n z t = refl
+
+module _ (n : List ℕ) (z : List ℤ) (l t : List ℕ) (r : ℕ) (reached : (i : ℕ) → ltb i r ≡ isLent (length n) (length z) (length l) (length t) i) where
+  -- field j + 1
+  field-says : (form : Form) (j : ℕ) → saidBy form (heldAt n z (take r l) t (j + 1)) ≡ saidBy form (lentValue n z l t j)
+  unfolding heldAt textHeld lentValue heldValue
+  field-says form j = rw (add-one, ← reached j) (go (ltb j r) refl)
+    where
+      e : suc j - 1 ≡ j
+      e = omega arith
+
+      go :
+          (b : Bool) → ltb j r ≡ b
+          → saidBy form (valueBy (getD n j 0) (getD z j (pos 0)) (getD (take r l) j 0) (take widest (drop (widest * (suc j - 1)) t)))
+          ≡ saidBy form (pick b (heldValue n z l t j) noValue)
+      go true h =
+          let lent = lent-reach (length n) (length z) (length l) (length t) j (sym (reached j) ∙ h) in
+          rw (e, getD-take r l j 0 (ltb-true j r h), held-whole t (widest * j) lent)
+      go false h =
+          let m = ltb-false j r h in
+          let past : getD (take r l) j 0 ≡ 0 = List·getD-eq-default (take r l) 0 {n = j} (simp length-take (omega arith)) in
+          rw past (none-said form (getD n j 0) (getD z j (pos 0)) _)
+
+  pub lent-says : (k : Kind) → SaySame k (sayBy k (heldAt n z (take r l) t)) (valuesSay k (lentValues n z l t))
+  unfolding sayBy valuesSay valueAt lentValues
+  lent-says k zero a b = absurd (not-suc-le-zero a)
+  lent-says k (suc j) a b =
+      let few : j < mostFields = omega (arith, sane k) in
+      subst (λ (f : ℕ). saidBy (formAt k f) (heldAt n z (take r l) t f) ≡ saidBy (formAt k f) (getD (noValue ∷ row (lentValue n z l t) mostFields) f noValue)) (add-one j)
+      (field-says (formAt k (j + 1)) j ∙ ap (saidBy (formAt k (j + 1))) (sym (rw add-one (row-at (lentValue n z l t) mostFields noValue few))))
 
 -- A RECORD WRITTEN from lent values
-pub lent-writes : {file r : ℕ} {u v : Values} {room after : List ℕ} {a : Answer} → r ≡ answerWord a → u ≡ v → Writes file u room a after → WritesLent file v room r after
-lent-writes {file} {room = room} {after} {a} e h w = record { answer = a; says = e; writes = subst (λ (x : Values). Writes file x room a after) h w }
+pub lent-writes : {file r : ℕ} {v : Values} {room after : List ℕ} {a : Answer} → r ≡ answerWord a → Writes file v room a after → WritesLent file v room r after
+lent-writes {a = a} e w = record { answer = a; says = e; writes = w }
 
 -- A RECORD READ into lent memory
 pub roomy-says : (a b c d : ℕ) → roomy a b c d ≡ true → (mostFields ≤ a) × (mostFields ≤ b) × (mostFields ≤ c) × (textRoom ≤ d)
@@ -147,7 +210,15 @@ roomy-says a b c d e =
     not-below : (x y : ℕ) → not (ltb x y) ≡ true → y ≤ x
     not-below x y h = ltb-false x y (not-true (ltb x y) h)
 
-module _ {file : ℕ} {bytes : List ℕ} {n : ℕ} {numbers : List ℕ} {coordinates : List ℤ} {lengths texts : List ℕ} (reading : Reading) (e : reading ≡ readOf file bytes n) where
+pub read-none : (file : ℕ) (s : List ℕ) (n : ℕ) {w : Which} → w ≡ whichOf file → w ≡ NoFile → readOf file s n .answer ≡ Refused NoFile60 0
+unfolding readOf
+read-none file s n e h = rw (← e, h)
+
+pub read-is : (file : ℕ) (s : List ℕ) (n : ℕ) (k : Kind) → whichOf file ≡ File k → readOf file s n ≡ readIn s k n
+unfolding readOf
+read-is file s n k e = rw e
+
+module _ {file : ℕ} {bytes : List ℕ} {n : ℕ} {numbers : List ℕ} {coordinates : List ℤ} {lengths texts : List ℕ} where
   refused : {r : ℕ} → (r ≡ 0 → ⊥) → r ≡ readAnswer (readOf file bytes n .answer) (roomy (length numbers) (length coordinates) (length lengths) (length texts))
       → Reads file bytes n numbers coordinates lengths texts r numbers coordinates lengths texts
   refused never says =
@@ -161,24 +232,24 @@ module _ {file : ℕ} {bytes : List ℕ} {n : ℕ} {numbers : List ℕ} {coordin
       }
 
   pub reads-refused :
-      {r : ℕ} (reason : Reason) (field : ℕ) → reading .answer ≡ Refused reason field → r ≡ refusalWord reason field
+      {r : ℕ} (reason : Reason) (field : ℕ) → readOf file bytes n .answer ≡ Refused reason field → r ≡ refusalWord reason field
       → Reads file bytes n numbers coordinates lengths texts r numbers coordinates lengths texts
   reads-refused reason field a h =
-      refused (λ z. refusal-told reason field (sym h ∙ z)) (rw (← e, a) h)
+      refused (λ z. refusal-told reason field (sym h ∙ z)) (rw a h)
 
   pub reads-no-room :
-      {r : ℕ} → reading .answer ≡ Done → roomy (length numbers) (length coordinates) (length lengths) (length texts) ≡ false → r ≡ refusalWord ShortRoom61 0
+      {r : ℕ} → readOf file bytes n .answer ≡ Done → roomy (length numbers) (length coordinates) (length lengths) (length texts) ≡ false → r ≡ refusalWord ShortRoom61 0
       → Reads file bytes n numbers coordinates lengths texts r numbers coordinates lengths texts
-  reads-no-room a m h = refused (λ z. refusal-told ShortRoom61 0 (sym h ∙ z)) (rw (← e, a, m) h)
+  reads-no-room a m h = refused (λ z. refusal-told ShortRoom61 0 (sym h ∙ z)) (rw (a, m) h)
 
   pub reads-done :
-      {numbers' : List ℕ} {coordinates' : List ℤ} {lengths' texts' : List ℕ} → reading .answer ≡ Done
+      {numbers' : List ℕ} {coordinates' : List ℤ} {lengths' texts' : List ℕ} {v : Values} → record { answer = Done; values = v } ≡ readOf file bytes n
       → roomy (length numbers) (length coordinates) (length lengths) (length texts) ≡ true
-      → Holds (reading .values) numbers coordinates lengths texts numbers' coordinates' lengths' texts'
+      → Holds v numbers coordinates lengths texts numbers' coordinates' lengths' texts'
       → Reads file bytes n numbers coordinates lengths texts 0 numbers' coordinates' lengths' texts'
-  reads-done {numbers'} {coordinates'} {lengths'} {texts'} a m h =
+  reads-done {numbers'} {coordinates'} {lengths'} {texts'} e m h =
       record {
-        says = rw (← e, a, m);
+        says = rw (← e, m);
         holds = λ z. subst (λ (x : Reading). Holds (x .values) numbers coordinates lengths texts numbers' coordinates' lengths' texts') e h;
         numbersStay = λ never. absurd (never refl);
         coordinatesStay = λ never. absurd (never refl);

@@ -1,62 +1,70 @@
-// One record read, or written, its values in lent memory: of each field a number, a coordinate, a length and sixty bytes of text.
+// One record read, or written, its values in lent memory: of each field a number, a coordinate, a length and sixty bytes of text. Each is
+// put where it will stay, and taken where it lies.
 use crate::answer::refusal;
-use codec::read::read;
+use codec::read::answer_in;
+use codec::read::coordinate_as;
+use codec::read::length_as;
+use codec::read::number_as;
+use codec::read::put_words;
 use codec::values::Answer;
-use codec::values::Value;
-use codec::values::Values;
-use codec::values::missing_value;
-use codec::write::write;
+use codec::write::write_held;
 use field::words::put_text;
-use record::cut::part;
+use record::cut::field;
+use record::cut::record_bytes;
+use record::kind::Kind;
 use record::kind::MOST_FIELDS;
 use record::kind::WIDEST;
+use record::kind::Which;
+use record::kind::kind_of;
 use record::reason::Reason;
 ghost use mathlib.Core.Path.{_≡_};
-ghost use Prim.Native.Nat.{_<_, _≤_};
+ghost use mathlib.Core.Bool.{_&&_};
+ghost use Prim.Native.Nat.{ℕ, _<_, _≤_};
+ghost use lib.Dec.{ltb};
 ghost use lib.ListN.{length};
-ghost use Rattle.record.specs.Table.{mostFields};
-ghost use Rattle.canopyrail.specs.Lent.{lentLength, roomy, Holds, Reads, isLent, heldValue, lentValue, lentValues, WritesLent, textRoom};
+ghost use Rattle.record.specs.Table.{mostFields, whichOf};
+ghost use Rattle.codec.specs.Values.{valuesIn};
+ghost use Rattle.canopyrail.specs.Lent.{roomy, Holds, Reads, isLent, lentValues, WritesLent, textRoom};
 ghost use Rattle.canopyrail.specs.Answers.{answerWord};
 
 // The texts of all fields, one after another.
 const TEXTS: usize = MOST_FIELDS * WIDEST;
 
-// A text's bytes; 1 of a number or a coordinate that is given.
-fn lent_length(v: Value) -> usize
-    ensures { λ r. ⌜ r ≡ lentLength v ⌝ }
-{
-    let len = v.len;
-    if v.given {
-        if len == 0 { 1 } else { len }
-    } else {
-        len
-    }
-}
-
-// Puts fourteen values into lent memory.
-fn put_values(
-    values: Values,
+// Puts the values of a record's bytes, fourteen of each, into lent memory.
+fn lend_record(
+    rec: &[u8],
+    k: Kind,
     numbers: &mut [u64],
     coordinates: &mut [i64],
     lengths: &mut [usize],
     texts: &mut [u8],
 )
     requires { ⌜ (mostFields ≤ length (now numbers)) × (mostFields ≤ length (now coordinates)) × (mostFields ≤ length (now lengths)) × (textRoom ≤ length (now texts)) ⌝ }
-    ensures { λ _. ⌜ Holds values (now (numbers .entry)) (now (coordinates .entry)) (now (lengths .entry)) (now (texts .entry)) (now (numbers .exit)) (now (coordinates .exit)) (now (lengths .exit)) (now (texts .exit)) ⌝ }
+    ensures { λ _. ⌜ Holds (valuesIn (now (rec .entry)) k) (now (numbers .entry)) (now (coordinates .entry)) (now (lengths .entry)) (now (texts .entry)) (now (numbers .exit)) (now (coordinates .exit)) (now (lengths .exit)) (now (texts .exit)) ⌝ }
 {
+    let n = k.fields();
+    let none = [0u8; 1];
     let mut i = 0;
     while i < MOST_FIELDS {
-        let v = values.get(i + 1);
-        let number = v.number;
-        let coordinate = v.coordinate;
-        let text = v.text;
-        numbers[i] = number;
-        coordinates[i] = coordinate;
-        lengths[i] = lent_length(v);
         let from = WIDEST * i;
         let next = from + WIDEST;
-        put_text(&mut texts[from..next], &text, WIDEST);
-        i += 1;
+        if i < n {
+            let f = i + 1;
+            let form = k.form(f);
+            let t = field(rec, k, f);
+            let len = length_as(form, t);
+            numbers[i] = number_as(form, t);
+            coordinates[i] = coordinate_as(form, t, rec, k, i);
+            lengths[i] = len;
+            put_words(&mut texts[from..next], form, t, len);
+            i += 1;
+        } else {
+            numbers[i] = 0;
+            coordinates[i] = 0;
+            lengths[i] = 0;
+            put_text(&mut texts[from..next], &none, 0);
+            i += 1;
+        }
     }
 }
 
@@ -67,6 +75,32 @@ fn has_room(numbers: usize, coordinates: usize, lengths: usize, texts: usize) ->
         & !(coordinates < MOST_FIELDS)
         & !(lengths < MOST_FIELDS)
         & !(texts < TEXTS)
+}
+
+// Reads record n, counted from 1, of the bytes of a file of the kind.
+fn read_in(
+    k: Kind,
+    bytes: &[u8],
+    n: usize,
+    numbers: &mut [u64],
+    coordinates: &mut [i64],
+    lengths: &mut [usize],
+    texts: &mut [u8],
+) -> u64
+    ensures { λ r. ⌜ ((file : ℕ) → whichOf file ≡ Which.File k → Reads file (now (bytes .entry)) n (now (numbers .entry)) (now (coordinates .entry)) (now (lengths .entry)) (now (texts .entry)) r (now (numbers .exit)) (now (coordinates .exit)) (now (lengths .exit)) (now (texts .exit))) ⌝ }
+{
+    match answer_in(bytes, k, n) {
+        Answer::Refused(reason, field) => refusal(reason, field),
+        Answer::Done => {
+            if has_room(numbers.len(), coordinates.len(), lengths.len(), texts.len()) {
+                let rec = record_bytes(bytes, k, n - 1);
+                lend_record(rec, k, numbers, coordinates, lengths, texts);
+                0
+            } else {
+                refusal(Reason::ShortRoom61, 0)
+            }
+        }
+    }
 }
 
 // Reads record n, counted from 1, of the bytes of the file with the number; a refusal leaves the lent memory as it was.
@@ -82,89 +116,25 @@ pub extern "C" fn canopyrail_read(
 ) -> u64
     ensures { λ r. ⌜ Reads file (now (bytes .entry)) n (now (numbers .entry)) (now (coordinates .entry)) (now (lengths .entry)) (now (texts .entry)) r (now (numbers .exit)) (now (coordinates .exit)) (now (lengths .exit)) (now (texts .exit)) ⌝ }
 {
-    let reading = read(file, bytes, n);
-    let answer = reading.answer;
-    let values = reading.values;
-    match answer {
-        Answer::Refused(reason, field) => refusal(reason, field),
-        Answer::Done => {
-            if has_room(numbers.len(), coordinates.len(), lengths.len(), texts.len()) {
-                put_values(values, numbers, coordinates, lengths, texts);
-                0
-            } else {
-                refusal(Reason::ShortRoom61, 0)
-            }
-        }
+    match kind_of(file) {
+        Which::NoFile => refusal(Reason::NoFile60, 0),
+        Which::File(k) => read_in(k, bytes, n, numbers, coordinates, lengths, texts),
     }
 }
 
-// What the four arrays, which reach it, hold of field i + 1.
-fn held_value(
-    numbers: &[u64],
-    coordinates: &[i64],
-    lengths: &[usize],
-    texts: &[u8],
-    i: usize,
-) -> Value
-    requires { ⌜ (i < mostFields) × (i < length (now numbers)) × (i < length (now coordinates)) × (i < length (now lengths)) ⌝ }
-    ensures { λ r. ⌜ r ≡ heldValue (now (numbers .entry)) (now (coordinates .entry)) (now (lengths .entry)) (now (texts .entry)) i ⌝ }
+// The lesser of two counts: what is below it is below both.
+fn least(a: usize, b: usize) -> usize
+    ensures { λ r. ⌜ (r ≤ a) × (r ≤ b) × ((i : ℕ) → ltb i r ≡ (ltb i a && ltb i b)) ⌝ }
 {
-    let len = lengths[i];
-    let t = part(texts, WIDEST * i, WIDEST);
-    let mut text = [32u8; WIDEST];
-    put_text(&mut text, t, t.len());
-    Value {
-        given: len != 0,
-        number: numbers[i],
-        coordinate: coordinates[i],
-        len,
-        text,
-    }
+    if a < b { a } else { b }
 }
 
-// Whether all four arrays, of these lengths, reach field i + 1.
-fn is_lent(numbers: usize, coordinates: usize, lengths: usize, texts: usize, i: usize) -> bool
-    requires { ⌜ i < mostFields ⌝ }
-    ensures { λ r. ⌜ r ≡ isLent numbers coordinates lengths texts i ⌝ }
+// How many fields all four arrays, of these lengths, reach. Past the end of a shorter array every value is missing: a length without its
+// number says nothing.
+fn reach(numbers: usize, coordinates: usize, lengths: usize, texts: usize) -> usize
+    ensures { λ r. ⌜ (r ≤ lengths) × ((i : ℕ) → ltb i r ≡ isLent numbers coordinates lengths texts i) ⌝ }
 {
-    let end = WIDEST * i + WIDEST;
-    (i < numbers) & (i < coordinates) & (i < lengths) & (end <= texts)
-}
-
-// The value of field i + 1. Past the end of a shorter array every value is missing: a length without its number says nothing.
-fn lent_value(
-    numbers: &[u64],
-    coordinates: &[i64],
-    lengths: &[usize],
-    texts: &[u8],
-    i: usize,
-) -> Value
-    requires { ⌜ i < mostFields ⌝ }
-    ensures { λ r. ⌜ r ≡ lentValue (now (numbers .entry)) (now (coordinates .entry)) (now (lengths .entry)) (now (texts .entry)) i ⌝ }
-{
-    if is_lent(
-        numbers.len(),
-        coordinates.len(),
-        lengths.len(),
-        texts.len(),
-        i,
-    ) {
-        held_value(numbers, coordinates, lengths, texts, i)
-    } else {
-        missing_value()
-    }
-}
-
-fn lent_values(numbers: &[u64], coordinates: &[i64], lengths: &[usize], texts: &[u8]) -> Values
-    ensures { λ r. ⌜ r ≡ lentValues (now (numbers .entry)) (now (coordinates .entry)) (now (lengths .entry)) (now (texts .entry)) ⌝ }
-{
-    let mut at = [missing_value(); MOST_FIELDS];
-    let mut i = 0;
-    while i < MOST_FIELDS {
-        at[i] = lent_value(numbers, coordinates, lengths, texts, i);
-        i += 1;
-    }
-    Values { at }
+    least(least(least(numbers, coordinates), lengths), texts / WIDEST)
 }
 
 fn answer_word(a: Answer) -> u64
@@ -188,6 +158,6 @@ pub extern "C" fn canopyrail_write(
 ) -> u64
     ensures { λ r. ⌜ WritesLent file (lentValues (now (numbers .entry)) (now (coordinates .entry)) (now (lengths .entry)) (now (texts .entry))) (now (room .entry)) r (now (room .exit)) ⌝ }
 {
-    let v = lent_values(numbers, coordinates, lengths, texts);
-    answer_word(write(file, v, room))
+    let n = reach(numbers.len(), coordinates.len(), lengths.len(), texts.len());
+    answer_word(write_held(file, numbers, coordinates, &lengths[..n], texts, room))
 }

@@ -38,34 +38,27 @@ use Rattle.codec.specs.Writes.{encode}
 use Rattle.codec.specs.Refusals.{sixties, valuesFinding}
 use Rattle.codec.specs.Calls.{answerOf, noReading, readFound, readIn, readOf, answerIn, roomAfter, roomAs, Writes}
 use Rattle.codec.proofs.EncodeLaws.{length-encode}
+use Rattle.codec.proofs.ReadLaws.{never-done, found-answer}
 use Rattle.codec.proofs.AllFalse.{First, record-first, values-first}
 use Rattle.codec.proofs.Out.{values-shaped, written-lawful}
 use Rattle.codec.proofs.In.{encode-same, finding-same, same-bytes, read-writable, values-say}
 
 -- ANSWERS
-done-refused : {r : Reason} {f : ℕ} → Refused r f ≡ Done → ⊥
-done-refused {r} {f} e = let z : _≡_ {A = ℕ} 0 1 = cc in omega arith
-
 answer-done : (o : Finding) → answerOf o ≡ Done → o ≡ Fine
 answer-done Fine e = refl
-answer-done (Broken b) e = absurd (done-refused e)
+answer-done (Broken b) e = absurd (never-done e)
 
 -- what the break found tells is told of the refusal
 answer-refused :
     (P : Reason → ℕ → Type 0) (o : Finding) → ((b : Break) → o ≡ Broken b → P (b .reason) (b .field)) → (reason : Reason) (field : ℕ)
     → answerOf o ≡ Refused reason field → P reason field
-answer-refused P Fine h reason field e = absurd (done-refused (sym e))
+answer-refused P Fine h reason field e = absurd (never-done (sym e))
 answer-refused P (Broken b) h reason field e =
     let p : b .reason ≡ reason = cc in
     let q : b .field ≡ field = cc in
     rw (← p, ← q) (h b refl)
 
 -- READING
--- of a record's bytes with what is found in them
-found-answer : (s : List ℕ) (k : Kind) (o : Finding) → readFound s k o .answer ≡ answerOf o
-found-answer s k Fine = refl
-found-answer s k (Broken b) = refl
-
 module _ (file : ℕ) (k : Kind) (e : whichOf file ≡ File k) (s : List ℕ) (n : ℕ) where
   -- a record that is not there,
   pub read-past : (n ≡ 0) ⊎ (countOf s k < n) → readOf file s n ≡ noReading NoSuchRecord66 0
@@ -96,7 +89,7 @@ module _ (file : ℕ) (k : Kind) (e : whichOf file ≡ File k) (s : List ℕ) (n
           (b : Bool) → (eqb n 0 || ltb (countOf s k) n) ≡ b
           → pick b (noReading NoSuchRecord66 0) (readFound (recordOf s k (n - 1)) k (recordFinding (recordOf s k (n - 1)) k n)) .answer ≡ Done
           → (1 ≤ n) × (n ≤ countOf s k)
-      go true h d = absurd (done-refused d)
+      go true h d = absurd (never-done d)
       go false h d =
           let p = neither (eqb n 0) (ltb (countOf s k) n) h in
           let z = eqb-false n 0 (p .0) in
@@ -168,7 +161,7 @@ module _ (file : ℕ) (k : Kind) (e : whichOf file ≡ File k) (v : Values) (roo
   wrote-fits d = go (decLt (length room) (lengthOf k))
     where
       go : Dec (length room < lengthOf k) → lengthOf k ≤ length room
-      go (yes l) = absurd (done-refused (sym (wrote-short l) ∙ d))
+      go (yes l) = absurd (never-done (sym (wrote-short l) ∙ d))
       go (no l) = omega arith
 
   pub wrote-fine : a ≡ Done → valuesFinding k (valuesSay k v) ≡ Fine

@@ -6,6 +6,8 @@ pub mod OutFields
 pub mod Out
 pub mod InFields
 pub mod In
+pub mod HeldLaws
+pub mod StoreLaws
 pub mod ReadLaws
 pub mod RefuseLaws
 pub mod WriteLaws

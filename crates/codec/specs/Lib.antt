@@ -2,3 +2,4 @@ pub mod Values
 pub mod Writes
 pub mod Refusals
 pub mod Calls
+pub mod machinery

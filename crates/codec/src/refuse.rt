@@ -1,6 +1,10 @@
-// What writing refuses, reasons 62 to 65: a test for each, true where the value is refused.
-use crate::values::Value;
-use crate::values::Values;
+// What writing refuses, reasons 62 to 65: a test for each, true where the value is refused. Values are taken as four arrays hold them
+// (held.rt). What a test doesn't look at its contract leaves open.
+use crate::held::coordinate_at;
+use crate::held::length_at;
+use crate::held::minus;
+use crate::held::number_at;
+use crate::held::text_at;
 use field::class::Class;
 use field::number::has_digits;
 use field::number::magnitude;
@@ -18,106 +22,72 @@ ghost use mathlib.Core.Path.{_≡_};
 ghost use mathlib.Core.Bool.{_&&_, _||_, not};
 ghost use mathlib.Core.List.{List, []};
 ghost use Prim.Native.Nat.{ℕ, _+_, _-_, _<_, _≤_};
+ghost use lib.IntN.{ℤ, pos};
 ghost use lib.ListN.{length, getD};
 ghost use Rattle.laws.specs.Nest.{run};
 ghost use Rattle.field.specs.Texts.{firstBytes};
-ghost use Rattle.record.specs.Table.{required, mustAt, widest};
+ghost use Rattle.record.specs.Table.{required, mustAt};
 ghost use Rattle.record.specs.Breaks.{findingOf, atPlace};
-ghost use Rattle.codec.specs.Values.{saidBy, valuesSay};
-ghost use Rattle.codec.specs.Refusals.{tooLarge, badText, badSaid, blankAs, blankAt, missingAs, partnersMissing, outsideSaid, sixties, sixtyReasons, valuesFinding};
+ghost use Rattle.codec.specs.Values.{textBy};
+ghost use Rattle.codec.specs.Refusals.{badText, badSaid, blankAt, partnersMissing, outsideSaid, sixties, sixtyReasons, valuesFinding};
+ghost use Rattle.codec.specs.machinery.Held.{valueBy, heldAt, sayBy};
 
-// 62: too large for w digits.
-fn too_large(form: Form, w: usize, v: Value) -> bool
-    ensures { λ r. ⌜ r ≡ tooLarge w (saidBy form v) ⌝ }
-{
-    let given = v.given;
-    match form {
-        Form::Number => given & !has_digits(v.number, w),
-        Form::Size => given & !has_digits(magnitude(v.coordinate), w),
-        _ => false,
-    }
-}
-
-// Whether the first len bytes are no text of w bytes.
+// Whether the first len bytes are no text of w bytes. Past the end of the slice bytes count as 0, which is no text's.
 fn bad_text(w: usize, text: &[u8], len: usize) -> bool
-    requires { ⌜ w ≤ length (now text) ⌝ }
     ensures { λ r. ⌜ r ≡ badText w (firstBytes len (now (text .entry))) ⌝ }
 {
     if w < len {
         return true;
     }
+    if text.len() < len {
+        return true;
+    }
     !Class::Text.all(part(text, 0, len)) | edged_by(32, text, len) | edged_by(160, text, len)
 }
 
-// 63: a bad text.
-fn bad_value(form: Form, w: usize, v: Value) -> bool
-    requires { ⌜ w ≤ widest ⌝ }
-    ensures { λ r. ⌜ r ≡ badSaid w (saidBy form v) ⌝ }
+// 63: a bad text; one of no bytes is missing.
+fn bad_words(w: usize, text: &[u8], len: usize) -> bool
+    ensures { λ r. ⌜ r ≡ badSaid w (textBy (valueBy 0 (pos 0) len (now (text .entry)))) ⌝ }
 {
-    let len = v.len;
-    let text = v.text;
-    match form {
-        Form::Sign => false,
-        Form::Number => false,
-        Form::Size => false,
-        _ => {
-            if len == 0 {
-                return false;
-            }
-            bad_text(w, &text, len)
-        }
+    if len == 0 {
+        false
+    } else {
+        bad_text(w, text, len)
     }
 }
 
-// Whether a field is written blank; next is the next field's value.
-fn blank_as(form: Form, v: Value, next: Value) -> bool
-    ensures { λ r. ⌜ r ≡ blankAs form (saidBy form v) (saidBy Form.Size next) ⌝ }
+// 65, of a text.
+fn unfit_words(domain: Domain, text: &[u8], len: usize) -> bool
+    ensures { λ r. ⌜ r ≡ outsideSaid domain (textBy (valueBy 0 (pos 0) len (now (text .entry)))) ⌝ }
 {
-    match form {
-        Form::Sign => !next.given,
-        Form::Number => !v.given,
-        Form::Size => !v.given,
-        _ => v.len == 0,
+    if len == 0 {
+        false
+    } else {
+        !domain.has_word(part(text, 0, len))
     }
 }
 
-fn blank_at(k: Kind, v: Values, f: usize) -> bool
+// Whether a field is written blank: a sign with its coordinate.
+fn blank_at(k: Kind, lengths: &[usize], f: usize) -> bool
     requires { ⌜ f < 256 ⌝ }
-    ensures { λ r. ⌜ r ≡ blankAt k (valuesSay k v) f ⌝ }
+    ensures { λ r. ⌜ ((n : List ℕ) (z : List ℤ) (t : List ℕ) → r ≡ blankAt k (sayBy k (heldAt n z (now (lengths .entry)) t)) f) ⌝ }
 {
-    blank_as(k.form(f), v.get(f), v.get(f + 1))
-}
-
-// Missing, for CODIGO also NA and ND; a coordinate's is told at its sign.
-fn missing_as(form: Form, v: Value, next: Value) -> bool
-    ensures { λ r. ⌜ r ≡ missingAs form (saidBy form v) (saidBy Form.Size next) ⌝ }
-{
-    let len = v.len;
-    let text = v.text;
-    match form {
-        Form::Code => (len == 0) | not_given(&text, len),
-        Form::Size => false,
-        _ => blank_as(form, v, next),
+    match k.form(f) {
+        Form::Sign => length_at(lengths, f + 1) == 0,
+        _ => length_at(lengths, f) == 0,
     }
-}
-
-// a - b, and 0 where b is the greater.
-fn minus(a: usize, b: usize) -> usize
-    ensures { λ r. ⌜ r ≡ a - b ⌝ }
-{
-    if b <= a { a - b } else { 0 }
 }
 
 // Whether a field and its partners are all written blank.
-fn partners_missing(k: Kind, v: Values, f: usize) -> bool
+fn partners_missing(k: Kind, lengths: &[usize], f: usize) -> bool
     requires { ⌜ f < 256 - 100 ⌝ }
-    ensures { λ r. ⌜ r ≡ partnersMissing k (valuesSay k v) f ⌝ }
+    ensures { λ r. ⌜ ((n : List ℕ) (z : List ℤ) (t : List ℕ) → r ≡ partnersMissing k (sayBy k (heldAt n z (now (lengths .entry)) t)) f) ⌝ }
 {
     let from = minus(f, k.back(f));
     let n = k.back(f) + k.ahead(f) + 1;
     let mut j = 0;
     while j < n {
-        if blank_at(k, v, from + j) {
+        if blank_at(k, lengths, from + j) {
             j += 1;
         } else {
             return false;
@@ -127,52 +97,68 @@ fn partners_missing(k: Kind, v: Values, f: usize) -> bool
 }
 
 // 64: gone where it may not be, or while a partner isn't.
-fn lacking(k: Kind, v: Values, f: usize, gone: bool) -> bool
+fn lacking(k: Kind, lengths: &[usize], f: usize, gone: bool) -> bool
     requires { ⌜ f < 256 - 100 ⌝ }
-    ensures { λ r. ⌜ r ≡ (gone && (required (mustAt k f) || not (partnersMissing k (valuesSay k v) f))) ⌝ }
+    ensures { λ r. ⌜ ((n : List ℕ) (z : List ℤ) (t : List ℕ) → r ≡ (gone && (required (mustAt k f) || not (partnersMissing k (sayBy k (heldAt n z (now (lengths .entry)) t)) f)))) ⌝ }
 {
     if gone {
-        k.must(f) | !partners_missing(k, v, f)
+        k.must(f) | !partners_missing(k, lengths, f)
     } else {
         false
     }
 }
 
-// 65: outside its domain. A text and a number are asked.
-fn unfit(form: Form, domain: Domain, v: Value) -> bool
-    ensures { λ r. ⌜ r ≡ outsideSaid domain (saidBy form v) ⌝ }
-{
-    let given = v.given;
-    let len = v.len;
-    let text = v.text;
-    match form {
-        Form::Sign => false,
-        Form::Number => given & !domain.has_number(v.number),
-        Form::Size => false,
-        _ => {
-            if len == 0 {
-                return false;
-            }
-            !domain.has_word(part(&text, 0, len))
-        }
-    }
-}
-
-// The tests of reasons 62 to 65 of a field.
-fn tests(k: Kind, v: Values, f: usize) -> [bool; 4]
+// The tests of reasons 62 to 65 of a field, by its form: a coordinate is too large at its number and missing at its sign, a CODIGO is
+// missing also as NA and ND.
+fn tests(
+    k: Kind,
+    numbers: &[u64],
+    coordinates: &[i64],
+    lengths: &[usize],
+    texts: &[u8],
+    f: usize,
+) -> [bool; 4]
     requires { ⌜ f < 256 - 100 ⌝ }
-    ensures { λ r. ⌜ r ≡ sixties k (valuesSay k v) f ⌝ }
+    ensures { λ r. ⌜ r ≡ sixties k (sayBy k (heldAt (now (numbers .entry)) (now (coordinates .entry)) (now (lengths .entry)) (now (texts .entry)))) f ⌝ }
 {
     let form = k.form(f);
-    let w = k.width(f);
-    let own = v.get(f);
-    let gone = missing_as(form, own, v.get(f + 1));
-    [
-        too_large(form, w, own),
-        bad_value(form, w, own),
-        lacking(k, v, f, gone),
-        unfit(form, k.domain(f), own),
-    ]
+    match form {
+        Form::Sign => {
+            let next = length_at(lengths, f + 1);
+            [false, false, lacking(k, lengths, f, next == 0), false]
+        }
+        Form::Number => {
+            let len = length_at(lengths, f);
+            let number = number_at(numbers, f);
+            [
+                (len != 0) & !has_digits(number, k.width(f)),
+                false,
+                lacking(k, lengths, f, len == 0),
+                (len != 0) & !k.domain(f).has_number(number),
+            ]
+        }
+        Form::Size => {
+            let len = length_at(lengths, f);
+            let size = magnitude(coordinate_at(coordinates, f));
+            [
+                (len != 0) & !has_digits(size, k.width(f)),
+                false,
+                false,
+                false,
+            ]
+        }
+        _ => {
+            let len = length_at(lengths, f);
+            let text = text_at(texts, f);
+            let gone = (len == 0) | (form.is_code() & not_given(text, len));
+            [
+                false,
+                bad_words(k.width(f), text, len),
+                lacking(k, lengths, f, gone),
+                unfit_words(k.domain(f), text, len),
+            ]
+        }
+    }
 }
 
 fn sixty_reason(j: usize) -> Reason
@@ -187,11 +173,18 @@ fn sixty_reason(j: usize) -> Reason
     }
 }
 
-fn check_value(k: Kind, v: Values, f: usize) -> Finding
+fn check_value(
+    k: Kind,
+    numbers: &[u64],
+    coordinates: &[i64],
+    lengths: &[usize],
+    texts: &[u8],
+    f: usize,
+) -> Finding
     requires { ⌜ f < 256 - 100 ⌝ }
-    ensures { λ r. ⌜ r ≡ findingOf (run (atPlace (sixties k (valuesSay k v) f) sixtyReasons k 0 f)) ⌝ }
+    ensures { λ r. ⌜ r ≡ findingOf (run (atPlace (sixties k (sayBy k (heldAt (now (numbers .entry)) (now (coordinates .entry)) (now (lengths .entry)) (now (texts .entry)))) f) sixtyReasons k 0 f)) ⌝ }
 {
-    let tests = tests(k, v, f);
+    let tests = tests(k, numbers, coordinates, lengths, texts, f);
     let j = first_true(&tests);
     if j < 4 {
         Finding::Broken(break_of(sixty_reason(j), k, 0, f))
@@ -201,13 +194,19 @@ fn check_value(k: Kind, v: Values, f: usize) -> Finding
 }
 
 // The first refusal by field and reason.
-pub(crate) fn check_values(k: Kind, v: Values) -> Finding
-    ensures { λ r. ⌜ r ≡ valuesFinding k (valuesSay k v) ⌝ }
+pub(crate) fn check_values(
+    k: Kind,
+    numbers: &[u64],
+    coordinates: &[i64],
+    lengths: &[usize],
+    texts: &[u8],
+) -> Finding
+    ensures { λ r. ⌜ r ≡ valuesFinding k (sayBy k (heldAt (now (numbers .entry)) (now (coordinates .entry)) (now (lengths .entry)) (now (texts .entry)))) ⌝ }
 {
     let n = k.fields() + 1;
     let mut f = 0;
     while f < n {
-        let found = check_value(k, v, f);
+        let found = check_value(k, numbers, coordinates, lengths, texts, f);
         if found.is_fine() {
             f += 1;
         } else {

@@ -11,15 +11,9 @@ use lib.Dec.{lit<, ltb}
 use lib.ListN.{length, getD, drop, set, length-set}
 use lib.Seq.{drop-length, drop-cons, drop-set-lt, getD-set-same}
 use borrow.Author.Tests.{lt-ltb}
-use Rattle.laws.specs.Row.{row}
-use Rattle.laws.proofs.RowLaws.{row-at}
 use Rattle.field.specs.Digits.{digits, digitsNumber, numberWritten}
 
--- POWERS
--- the table of the powers of ten
-pub powers-at : (w : ℕ) → w < 20 → getD (row (λ k. 10 ^ k) 20) w 0 ≡ 10 ^ w
-powers-at w h = row-at (λ k. 10 ^ k) 20 0 h
-
+-- POWERS of ten
 pub below-power : (n w : ℕ) → n < 2 ^ 64 → 20 ≤ w → ltb n (10 ^ w) ≡ true
 below-power n w h g =
     let p : 10 ^ 20 ≤ 10 ^ w = pow-le-pow-right (lit< tt) g in

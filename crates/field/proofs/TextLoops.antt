@@ -6,11 +6,12 @@ use mathlib.Core.Bool.{Bool, true, false, _&&_, _||_, and-assoc, and-true}
 use mathlib.Core.List.{List, [], _∷_, _++_}
 use native.Mathlib.Nat.{pow-suc, not-suc-le-zero}
 use native.Mathlib.Numerals.{add-one, sub-one}
+use native.Mathlib.Decide.{decLt}
 use native.Mathlib.Omega.{arith}
 use lib.Dec.{ltb, eqb}
-use lib.ListN.{length, getD, take, drop, set, drop-of-length-le, replicate, length-append, length-replicate, getD-replicate, List·getD-append}
+use lib.ListN.{length, getD, take, drop, set, drop-of-length-le, replicate, length-append, length-replicate, length-set, getD-replicate, List·getD-append, List·getD-eq-default}
 use lib.Seq.{drop-cons, take-suc, take-suc-set, take-all, getD-take, getD-append-add, length-take-le}
-use borrow.Author.Tests.{ltb-true, ltb-false, eqb-true, eq-eqb, ne-eqb}
+use borrow.Author.Tests.{ltb-true, ltb-false, lt-ltb, le-ltb, eqb-true, eq-eqb, ne-eqb}
 use Rattle.laws.specs.Row.{pick, each}
 use Rattle.field.specs.declared.class.Class.{Class}
 use Rattle.field.specs.Bytes.{inClass, allOf, blanks}
@@ -78,7 +79,7 @@ bytes-more k p whole b h g q e =
     rw (add-one, take-suc-set p k b h, take-suc whole k 0 g, e, q)
 
 pub bytes-end : {k : ℕ} (p whole : List ℕ) → length whole ≡ length p → length p ≤ k → take k p ≡ take k whole → p ≡ whole
-bytes-end {k} p whole l h e = sym (take-all k p h) ∙ e ∙ take-all k whole (omega arith)
+bytes-end {k = k} p whole l h e = sym (take-all k p h) ∙ e ∙ take-all k whole (omega arith)
 
 pub text-more : (k : ℕ) (p : List ℕ) (w len : ℕ) (s : List ℕ) (b : ℕ) → length p ≡ w → k < length p
     → b ≡ pick (ltb k len) (getD s k 0) 32 → take k p ≡ take k (padded w (firstBytes len s))
@@ -86,6 +87,45 @@ pub text-more : (k : ℕ) (p : List ℕ) (w len : ℕ) (s : List ℕ) (b : ℕ) 
 text-more k p w len s b lp h q e =
     let t = firstBytes len s in
     bytes-more k p (padded w t) b h (rw length-padded (omega arith)) (q ∙ sym (padded-at w t s k (length-first len s) (first-at len s k) (omega arith))) e
+
+-- a padded text laid down byte by byte: k of them stand
+pub record Laid (w len : ℕ) (s p : List ℕ) (k : ℕ) : Type 0 where
+  pub long : length p ≡ w
+  pub few : k ≤ w
+  pub stand : take k p ≡ take k (padded w (firstBytes len s))
+
+pub laid-start : (w len : ℕ) (s p : List ℕ) → length p ≡ w → Laid w len s p 0
+laid-start w len s p e = record { long = e; few = omega arith; stand = refl }
+
+module _ {w len : ℕ} {s p : List ℕ} {k : ℕ} (h : Laid w len s p k) where
+  laid-more : {b : ℕ} → k < w → b ≡ pick (ltb k len) (getD s k 0) 32 → Laid w len s (set p k b) (k + 1)
+  laid-more {b} l q =
+      record {
+        long = simp length-set (h .long);
+        few = omega arith;
+        stand = text-more k p w len s b (h .long) (omega (arith, h .long)) q (h .stand);
+      }
+
+  -- one of those that the slice has, a zero where it has none, and a blank after the text
+  pub laid-there : k < w → k < len → Laid w len s (set p k (getD s k 0)) (k + 1)
+  laid-there l m = laid-more l (rw (lt-ltb k len m))
+
+  pub laid-zero : k < w → k < len → length s ≤ k → Laid w len s (set p k 0) (k + 1)
+  laid-zero l m past = laid-more l (rw (lt-ltb k len m) (sym (List·getD-eq-default s 0 past)))
+
+  pub laid-blank : k < w → len ≤ k → Laid w len s (set p k 32) (k + 1)
+  laid-blank l m = laid-more l (rw (le-ltb k len m))
+
+  pub laid-end : w ≤ k → p ≡ padded w (firstBytes len s)
+  laid-end l = bytes-end {k = k} p (padded w (firstBytes len s)) (length-padded w (firstBytes len s) ∙ sym (h .long)) (omega (arith, h .long)) (h .stand)
+
+-- what ends before the text does fills the part
+pub past-text : {given len n k : ℕ} → (given < len → given ≡ n) → given ≤ k → k < n → len ≤ k
+past-text {given} {len} {n} {k} e a b = go (decLt given len)
+  where
+    go : Dec (given < len) → len ≤ k
+    go (yes l) = absurd (omega (arith, e l))
+    go (no l) = omega arith
 
 -- TRAILING BLANKS: the invariant is `trimTo k part ≡ trimTo (length part) part`
 pub trim-blank : (k : ℕ) (s : List ℕ) → 0 < k → getD s (k - 1) 0 ≡ 32 → trimTo (k - 1) s ≡ trimTo k s

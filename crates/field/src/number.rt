@@ -10,34 +10,40 @@ ghost use Rattle.field.specs.Digits.{digits, numberWritten};
 ghost use Rattle.field.specs.Signs.{isNeg, signed, signByte};
 ghost use Rattle.field.specs.machinery.AtOnce.{Under, fourBytes, AtOnce};
 
-const POWERS: [u64; 20] = [
-    1,
-    10,
-    100,
-    1000,
-    10000,
-    100000,
-    1000000,
-    10000000,
-    100000000,
-    1000000000,
-    10000000000,
-    100000000000,
-    1000000000000,
-    10000000000000,
-    100000000000000,
-    1000000000000000,
-    10000000000000000,
-    100000000000000000,
-    1000000000000000000,
-    10000000000000000000,
-];
+// 10 ^ w. (A match is a table; an array would be built anew at each read.)
+fn power(w: usize) -> u64
+    requires { ⌜ w < 20 ⌝ }
+    ensures { λ r. ⌜ r ≡ 10 ^ w ⌝ }
+{
+    match w {
+        0 => 1,
+        1 => 10,
+        2 => 100,
+        3 => 1000,
+        4 => 10000,
+        5 => 100000,
+        6 => 1000000,
+        7 => 10000000,
+        8 => 100000000,
+        9 => 1000000000,
+        10 => 10000000000,
+        11 => 100000000000,
+        12 => 1000000000000,
+        13 => 10000000000000,
+        14 => 100000000000000,
+        15 => 1000000000000000,
+        16 => 10000000000000000,
+        17 => 100000000000000000,
+        18 => 1000000000000000000,
+        _ => 10000000000000000000,
+    }
+}
 
 // Whether n has at most w digits.
 pub fn has_digits(n: u64, w: usize) -> bool
     ensures { λ r. ⌜ r ≡ ltb n (10 ^ w) ⌝ }
 {
-    if w < 20 { n < POWERS[w] } else { true }
+    if w < 20 { n < power(w) } else { true }
 }
 
 // Fills the part with the digits of n, zero-filled on the left.
@@ -170,6 +176,18 @@ pub fn number_at_once(t: &[u8]) -> u64
     }
 }
 
+// The number that the part's bytes write, at once where that does.
+pub fn number_in(t: &[u8]) -> u64
+    ensures value { λ r. ⌜ r ≡ numberWritten (now (t .entry)) ⌝ }
+    ensures small { λ r. ⌜ r < 2 ^ 38 ⌝ }
+{
+    let n = number_at_once(t);
+    if n == 0 {
+        return get_number(t);
+    }
+    n - 1
+}
+
 pub fn negative(z: i64) -> bool
     ensures { λ r. ⌜ r ≡ isNeg z ⌝ }
 {
@@ -194,7 +212,7 @@ fn signed_of(minus: bool, n: u64) -> i64
 pub fn get_coordinate(sign: &[u8], part: &[u8]) -> i64
     ensures { λ r. ⌜ r ≡ signed (eqb (getD (now (sign .entry)) 0 0) 45) (numberWritten (now (part .entry))) ⌝ }
 {
-    signed_of(byte(sign, 0) == 45, get_number(part))
+    signed_of(byte(sign, 0) == 45, number_in(part))
 }
 
 pub fn sign_byte(z: i64) -> u8

@@ -2,7 +2,7 @@
 use crate::class::Class;
 use crate::class::byte;
 ghost use mathlib.Core.Path.{_≡_};
-ghost use Prim.Native.Nat.{ℕ, _<_};
+ghost use Prim.Native.Nat.{ℕ, _<_, _≤_};
 ghost use lib.Dec.{ltb};
 ghost use lib.ListN.{length, getD};
 ghost use Rattle.laws.specs.Row.{pick};
@@ -15,13 +15,31 @@ fn padded_byte(text: &[u8], len: usize, k: usize) -> u8
     if k < len { byte(text, k) } else { 32 }
 }
 
-// Fills the part with the first len bytes of the text, then blanks; a text that is longer is cut.
+fn shorter(a: usize, b: usize) -> usize
+    ensures { λ r. ⌜ (r ≤ a) × (r ≤ b) × (r < a → r ≡ b) ⌝ }
+{
+    if a < b { a } else { b }
+}
+
+// Fills the part with the first len bytes of the text, then blanks; a text that is longer is cut. What the slice has of these bytes, the
+// zeros that stand for the others, and the blanks are a loop each, so that each compiles to steps of several bytes.
 pub fn put_text(part: &mut [u8], text: &[u8], len: usize)
     ensures { λ _. ⌜ now (part .exit) ≡ padded (length (now (part .entry))) (firstBytes len (now (text .entry))) ⌝ }
 {
+    let n = part.len();
+    let given = shorter(len, n);
+    let there = shorter(given, text.len());
     let mut k = 0;
-    while k < part.len() {
-        part[k] = padded_byte(text, len, k);
+    while k < there {
+        part[k] = text[k];
+        k += 1;
+    }
+    while k < given {
+        part[k] = 0;
+        k += 1;
+    }
+    while k < n {
+        part[k] = 32;
         k += 1;
     }
 }

@@ -17,7 +17,7 @@ use Rattle.index.specs.Keys.{foundOf}
 use Rattle.record.specs.declared.kind.Kind.{Kind}
 use Rattle.record.specs.declared.kind.Kind.the-variants.{ObPun, ObLin, Tramo, Vertice, Nodo}
 use Rattle.record.specs.declared.reason.Reason.the-variants.{LongFile10, SamePlace54}
-use Rattle.record.proofs.TableLaws.{NoneOf, numbers, default-at}
+use Rattle.laws.proofs.MatchLaws.{NoneOf, numbers, default-at}
 use Rattle.record.specs.Table.{fileOf}
 use Rattle.record.specs.Says.{Table}
 use Rattle.record.specs.Files.{Delivery}

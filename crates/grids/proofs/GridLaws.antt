@@ -28,7 +28,8 @@ use Rattle.record.specs.Table.{fileOf, fileCount, whichOf, onFile, kinds}
 use Rattle.record.specs.Files.{Files, deliveryOf}
 use Rattle.record.specs.Rules.{breaks10}
 use Rattle.record.specs.machinery.Counts.{shapeMany, fieldsMany}
-use Rattle.record.proofs.TableLaws.{sane, kind-at, which-file, NoneOf, numbers}
+use Rattle.laws.proofs.MatchLaws.{NoneOf, numbers}
+use Rattle.record.proofs.TableLaws.{sane, kind-at, which-file}
 use Rattle.fifties.proofs.FiftyLaws.{plain, end, other, else-default}
 use Rattle.keys.specs.Rules.{orFirst}
 use Rattle.judge.specs.Broken.{groups, lastTen, isThere, saidTests, testsOf, breaksIn, atWhich, breaksOf}

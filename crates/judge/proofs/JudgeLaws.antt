@@ -13,7 +13,7 @@ use Rattle.record.specs.declared.reason.Finding.the-variants.{Fine}
 use Rattle.record.specs.Table.{whichOf, fileCount, onFile}
 use Rattle.record.specs.Files.{Files}
 use Rattle.record.specs.Breaks.{shapeFinding, fieldsFinding}
-use Rattle.record.proofs.TableLaws.{NoneOf, numbers}
+use Rattle.laws.proofs.MatchLaws.{NoneOf, numbers}
 use Rattle.fifties.proofs.FiftyLaws.{plain, end, other, else-default}
 use Rattle.judge.specs.Broken.{countsOf}
 use Rattle.judge.specs.machinery.Searched.{groupAt}

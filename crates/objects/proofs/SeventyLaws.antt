@@ -1,6 +1,6 @@
 -- The laws of the seventies: the marks of 70, from them to the file's tally, and from that to its finding. The reasons.
 -- Assumes nothing.
-use Prim.Native.Nat.{ℕ, zero, suc, _+_, _-_, _/_, _%_, _<_, _≤_}
+use Prim.Native.Nat.{ℕ, zero, suc, _+_, _-_, _/_, _%_, _<_}
 use mathlib.Core.Bool.{Bool, true, false, not, _&&_}
 use mathlib.Core.List.{List, [], _∷_}
 use mathlib.Core.Path.{_≡_, refl, sym, ap, _∙_}
@@ -24,7 +24,8 @@ use Rattle.record.specs.Breaks.{breakOf}
 use Rattle.record.specs.Files.{Delivery}
 use Rattle.record.specs.Names.{nameAt}
 use Rattle.record.specs.machinery.Columns.{Fills}
-use Rattle.record.proofs.TableLaws.{sane, kind-at, NoneOf, numbers, default-at}
+use Rattle.laws.proofs.MatchLaws.{NoneOf, numbers, default-at}
+use Rattle.record.proofs.TableLaws.{sane, kind-at}
 use Rattle.record.proofs.FileLaws.{inside}
 use Rattle.keys.specs.machinery.Groups.{cellsOf}
 use Rattle.keys.specs.machinery.Cells.{TalliedTo}

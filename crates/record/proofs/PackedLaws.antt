@@ -19,7 +19,8 @@ use Rattle.record.specs.declared.kind.Target.{Target}
 use Rattle.record.specs.declared.kind.Target.the-variants.{Free, Nowhere, To}
 use Rattle.record.specs.Table.{Col, whole, cols, colAt, formAt, domainAt, fileOf, whichOf}
 use Rattle.record.specs.machinery.Packed.{packedOf, digitOf, digitAt, formDigit, formOf, domainDigit, domainOf, targetFile, targetField, targetBy}
-use Rattle.record.proofs.TableLaws.{NoneOf, numbers, default-at, each-getD, every, everywhere, every-place, past, sane, which-file}
+use Rattle.laws.proofs.MatchLaws.{NoneOf, numbers, default-at}
+use Rattle.record.proofs.TableLaws.{each-getD, every, everywhere, every-place, past, sane, which-file}
 
 -- The digits of an attribute's numbers are the attribute, as is computed of each
 abbrev pub Packs : (List Col → ℕ → ℕ) → Type 0

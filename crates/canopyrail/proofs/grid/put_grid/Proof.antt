@@ -6,7 +6,7 @@ use native.Mathlib.Omega.{arith}
 use borrow.Author.Needs.{needs}
 use Rattle.judge.specs.Broken.{groups}
 use Rattle.grids.specs.Sum.{cellAt}
-use Rattle.grids.proofs.FillLaws.{Putting, putting-start, putting-more, putting-end}
+use Rattle.laws.proofs.PutLaws.{Putting, putting-start, putting-more, putting-end}
 use Rattle.canopyrail.specs.Cells.{cellCount}
 use Rattle.canopyrail.proofs.grid.put_grid.Statement.{statement}
 use Rattle.canopyrail.proofs.grid.put_grid.Tie as tie

@@ -1,60 +1,61 @@
 -- `codec::read::read_in` meets its contract.
 -- Assumes nothing.
-use mathlib.Core.Path.{_∙_}
+use mathlib.Core.Path.{sym, ap, _∙_}
+use mathlib.Core.List.{List}
+use Prim.Native.Nat.{ℕ}
 use denote.Ref.{now}
-use Rattle.codec.proofs.ReadLaws.{read-none, read-past, read-there}
+use native.Mathlib.Omega.{arith}
+use Rattle.codec.specs.declared.values.Answer.the-variants.{Done}
+use Rattle.codec.specs.Values.{valuesIn}
+use Rattle.codec.proofs.ReadLaws.{read-refused, read-done}
 use borrow.Author.Needs.{needs}
 use Rattle.codec.proofs.read.read_in.Statement.{statement}
 use Rattle.codec.proofs.read.read_in.Tie as tie
 
+answer-in-requires : tie.Need-answer-in-requires
+answer-in-requires c κs = search needs
+
+enum-known-reason : tie.Need-enum-known-reason
+enum-known-reason c = search needs
+
 no-reading-requires : tie.Need-no-reading-requires
 no-reading-requires c κs = search needs
 
-returns : tie.Need-returns
-returns c =
-    let a = c .before .before .before .args in
-    c .no-reading .ensures ∙ read-none (now (a .bytes)) (a .k) (a .n) (c .before .if1 .taken)
-
-records-requires : tie.Need-records-requires
-records-requires c κs = search needs
-
-no-reading-requires-2 : tie.Need-no-reading-requires-2
-no-reading-requires-2 c κs = search needs
-
-returns-2 : tie.Need-returns-2
-returns-2 c =
-    let a = c .before .before .before .before .before .args in
-    c .no-reading2 .ensures ∙ read-past (now (a .bytes)) (a .k) (a .n) (rw (c .before .before .records .ensures) at (c .before .if2 .taken))
+enum-told : tie.Need-enum-told
+enum-told c = search needs
 
 sub-record-bytes : tie.Need-sub-record-bytes
-sub-record-bytes c = search needs
+sub-record-bytes c =
+    let a = c .before .before .before .before .args in
+    let z = read-done (now (a .bytes)) (a .k) (a .n) (sym (c .before .before .answer-in .ensures) ∙ c .enum-told .given .1) .0 in
+    omega arith
 
 record-bytes-requires : tie.Need-record-bytes-requires
 record-bytes-requires c κs = search needs
 
-check-record-requires : tie.Need-check-record-requires
-check-record-requires c κs = search needs
+values-in-requires : tie.Need-values-in-requires
+values-in-requires c κs = search needs
 
-read-found-requires : tie.Need-read-found-requires
-read-found-requires c κs = search needs
+returns : tie.Need-returns
+returns c =
+    let a = c .before .before .before .before .before .before .args in
+    c .no-reading .ensures ∙ read-refused (now (a .bytes)) (a .k) (a .n) (sym (c .before .before .before .before .answer-in .ensures) ∙ c .before .before .reason .given .1)
 
-returns-3 : tie.Need-returns-3
-returns-3 c =
-    let a = c .before .before .before .before .before .before .before .args in
-    c .read-found .ensures
-    ∙ read-there (now (a .bytes)) (a .k) (a .n) (c .before .before .before .before .before .if1 .left) (rw (c .before .before .before .before .records .ensures) at (c .before .before .before .if2 .left)) (c .before .before .record-bytes .ensures) (c .before .check-record .ensures)
+returns-2 : tie.Need-returns-2
+returns-2 c =
+    let a = c .before .before .before .before .before .before .args in
+    ap (λ v. record { answer = Done; values = v }) (c .values-in .ensures ∙ ap (λ (s : List ℕ). valuesIn s (a .k)) (c .before .record-bytes .ensures)) ∙ read-done (now (a .bytes)) (a .k) (a .n) (sym (c .before .before .before .before .answer-in .ensures) ∙ c .before .before .enum-told .given .1) .1
 
 pub read-in-spec : {M : Type 1} → statement M
 read-in-spec =
     tie.close
     (tie.spec
+    answer-in-requires
+    enum-known-reason
     no-reading-requires
-    returns
-    records-requires
-    no-reading-requires-2
-    returns-2
+    enum-told
     sub-record-bytes
     record-bytes-requires
-    check-record-requires
-    read-found-requires
-    returns-3)
+    values-in-requires
+    returns
+    returns-2)

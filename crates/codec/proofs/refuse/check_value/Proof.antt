@@ -1,21 +1,13 @@
 -- `codec::refuse::check_value` meets its contract: the break is that of the first test that holds.
 -- Assumes nothing.
-use mathlib.Core.Path.{_≡_, _∙_}
-use lib.ListN.{length}
-use borrow.Author.Needs.{needs}
-use Rattle.record.specs.Breaks.{indexOf}
+use mathlib.Core.Path.{_∙_}
+use denote.Ref.{now}
 use Rattle.record.proofs.FindingLaws.{place-broken, place-fine}
-use Rattle.codec.specs.Values.{valuesSay}
 use Rattle.codec.specs.Refusals.{sixties, sixtyReasons}
+use Rattle.codec.specs.machinery.Held.{heldAt, sayBy}
+use borrow.Author.Needs.{needs}
 use Rattle.codec.proofs.refuse.check_value.Statement.{statement}
 use Rattle.codec.proofs.refuse.check_value.Tie as tie
-
--- the first of the tests that holds
-first : (c : tie.After-first-true) →
-    let a = c .before .before .before .args in
-    let t = sixties (a .k) (valuesSay (a .k) (a .v)) (a .f) in
-    c .first-true .result ≡ indexOf t (length t)
-first c = c .first-true .ensures ∙ rw (c .before .before .tests .ensures)
 
 tests-requires : tie.Need-tests-requires
 tests-requires c κs = search needs
@@ -34,15 +26,15 @@ break-of-requires c κs = search needs
 
 returns : tie.Need-returns
 returns c =
-    let t = c .before .before in
-    let a = t .before .before .before .before .args in
-    place-broken (sixties (a .k) (valuesSay (a .k) (a .v)) (a .f)) sixtyReasons (a .k) 0 (a .f) (first (t .before)) (t .if1 .taken)
-    (c .break-of .ensures ∙ rw (c .before .sixty-reason .ensures))
+    let a = c .before .before .before .before .before .before .before .before .before .args in
+    let t = sixties (a .k) (sayBy (a .k) (heldAt (now (a .numbers)) (now (a .coordinates)) (now (a .lengths)) (now (a .texts)))) (a .f) in
+    place-broken t sixtyReasons (a .k) 0 (a .f) (c .before .before .before .first-true .ensures ∙ rw (c .before .before .before .before .before .tests .ensures)) (c .before .before .if1 .taken) (c .break-of .ensures ∙ rw (c .before .sixty-reason .ensures))
 
 returns-2 : tie.Need-returns-2
 returns-2 c =
-    let a = c .before .before .before .before .args in
-    place-fine (sixties (a .k) (valuesSay (a .k) (a .v)) (a .f)) sixtyReasons (a .k) 0 (a .f) (first (c .before)) (c .if1 .left)
+    let a = c .before .before .before .before .before .before .before .args in
+    let t = sixties (a .k) (sayBy (a .k) (heldAt (now (a .numbers)) (now (a .coordinates)) (now (a .lengths)) (now (a .texts)))) (a .f) in
+    place-fine t sixtyReasons (a .k) 0 (a .f) (c .before .first-true .ensures ∙ rw (c .before .before .before .tests .ensures)) (c .if1 .left)
 
 pub check-value-spec : {M : Type 1} → statement M
 check-value-spec =

@@ -11,10 +11,10 @@ partners-missing-requires : tie.Need-partners-missing-requires
 partners-missing-requires c κs = search needs
 
 returns : tie.Need-returns
-returns c = simp (c .partners-missing .ensures, c .before .must .ensures, c .before .before .if1 .taken)
+returns c = λ n z t. simp (c .partners-missing .ensures n z t, c .before .must .ensures, c .before .before .if1 .taken)
 
 returns-2 : tie.Need-returns-2
-returns-2 c = search needs
+returns-2 c = λ n z t. rw (c .if1 .left)
 
 pub lacking-spec : {M : Type 1} → statement M
 lacking-spec = tie.close (tie.spec must-requires partners-missing-requires returns returns-2)

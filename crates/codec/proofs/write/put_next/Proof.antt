@@ -2,6 +2,8 @@
 -- Assumes nothing.
 use Prim.Native.Nat.{ℕ, _+_}
 use mathlib.Core.Path.{ap}
+use denote.Ref.{now}
+use Rattle.codec.specs.machinery.Held.{heldAt}
 use Rattle.codec.proofs.WriteLaws.{next-put}
 use borrow.Author.Needs.{needs}
 use Rattle.codec.proofs.write.put_next.Statement.{statement}
@@ -25,15 +27,6 @@ part-put-field-end c = search needs
 form-requires : tie.Need-form-requires
 form-requires c κs = search needs
 
-get-requires : tie.Need-get-requires
-get-requires c κs = search needs
-
-add-get : tie.Need-add-get
-add-get c = search needs
-
-get-requires-2 : tie.Need-get-requires-2
-get-requires-2 c κs = search needs
-
 put-field-requires : tie.Need-put-field-requires
 put-field-requires c κs = search needs
 
@@ -54,15 +47,10 @@ same-length c = search needs
 
 returns : tie.Need-returns
 returns c =
-    let s = c .before .before .before .before .before .before .before .before .before .before .before in
-    let a = s .args in
-    let w = c .before .before .before .before .before .before .before .before .before .width in
-    let p = c .before .before .before .before .put-field in (
-      ap (λ (n : ℕ). a .at + n + 1) (w .ensures .0),
-      next-put (a .k) (a .v) (a .f) (a .at) (w .result) (a .buf .now) (p .last .0) _ _ _ _ _ (w .ensures .0) (c .before .before .before .before .before .before .before .form .ensures)
-          (c .before .before .before .before .before .before .get .ensures) (c .before .before .before .before .before .get2 .ensures) (c .before .fields .ensures) (s .pre .1) (p .kept .0) (p .ensures)
-          (c .end-byte .ensures),
-    )
+    let a = c .before .before .before .before .before .before .before .before .before .before .before .before .args in
+    let w = c .before .before .before .before .before .before .before .width in
+    let p = c .before .before .before .before .put-field in
+    (ap (λ (n : ℕ). a .at + n + 1) (w .ensures .0), next-put (a .k) (heldAt (now (a .numbers)) (now (a .coordinates)) (now (a .lengths)) (now (a .texts))) (a .f) (a .at) (w .result) (a .buf .now) (p .last .0) _ _ _ (w .ensures .0) (c .before .before .before .before .before .form .ensures) (c .before .fields .ensures) (c .before .before .before .before .before .before .before .before .before .before .before .before .pre .1) (p .kept .0) (p .ensures) (c .end-byte .ensures))
 
 pub put-next-spec : {M : Type 1} → statement M
 put-next-spec =
@@ -74,9 +62,6 @@ put-next-spec =
     part-put-field-start
     part-put-field-end
     form-requires
-    get-requires
-    add-get
-    get-requires-2
     put-field-requires
     fields-requires
     end-byte-requires

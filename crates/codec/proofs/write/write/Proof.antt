@@ -14,23 +14,20 @@ enum-told c = search needs
 enum-known-k : tie.Need-enum-known-k
 enum-known-k c = search needs
 
-write-in-requires : tie.Need-write-in-requires
-write-in-requires c κs = search needs
+write-values-requires : tie.Need-write-values-requires
+write-values-requires c κs = search needs
 
 returns : tie.Need-returns
-returns c =
-    let f = c .before .before .kind-of in
-    writes-none _ _ _ (f .result) (f .ensures) (c .enum-told .given .1)
+returns c = writes-none _ _ _ (c .before .before .kind-of .result) (c .before .before .kind-of .ensures) (c .enum-told .given .1)
 
 same-length : tie.Need-same-length
 same-length c = search needs
 
 returns-2 : tie.Need-returns-2
 returns-2 c =
-    let f = c .before .before .before .before .before .before .before .kind-of in
     let k = c .before .before .before .before .before .k .given in
-    let p = c .before .before .write-in in
-    writes-file _ _ _ (f .result) (f .ensures) (k .0 .0) (p .result) (p .last .1 .1 .0) (k .1) (p .ensures)
+    let p = c .before .before .write-values in
+    writes-file _ _ _ (c .before .before .before .before .before .before .before .kind-of .result) (c .before .before .before .before .before .before .before .kind-of .ensures) (k .0 .0) (p .result) (p .last .1 .1 .0) (k .1) (p .ensures)
 
 pub write-spec : {M : Type 1} → statement M
 write-spec =
@@ -39,7 +36,7 @@ write-spec =
     kind-of-requires
     enum-told
     enum-known-k
-    write-in-requires
+    write-values-requires
     returns
     same-length
     returns-2)

@@ -14,8 +14,8 @@ use Rattle.field.proofs.number.get_coordinate.Tie as tie
 byte-requires : tie.Need-byte-requires
 byte-requires c κs = search needs
 
-get-number-requires : tie.Need-get-number-requires
-get-number-requires c κs = search needs
+number-in-requires : tie.Need-number-in-requires
+number-in-requires c κs = search needs
 
 signed-of-requires : tie.Need-signed-of-requires
 signed-of-requires c κs = search needs
@@ -23,8 +23,8 @@ signed-of-requires c κs = search needs
 returns : tie.Need-returns
 returns c =
     let f : SFits w64 (c .signed-of .result) = search needs in
-    toZ-ofZ f ∙ c .signed-of .ensures ∙ ap₂ signed (ap (λ (b : ℕ). eqb b 45) (c .before .before .byte .ensures)) (c .before .get-number .ensures .0)
+    toZ-ofZ f ∙ c .signed-of .ensures ∙ ap₂ signed (ap (λ (b : ℕ). eqb b 45) (c .before .before .byte .ensures)) (c .before .number-in .ensures .0)
 
 pub get-coordinate-spec : {M : Type 1} → statement M
 get-coordinate-spec =
-    tie.close (tie.spec byte-requires get-number-requires signed-of-requires returns)
+    tie.close (tie.spec byte-requires number-in-requires signed-of-requires returns)

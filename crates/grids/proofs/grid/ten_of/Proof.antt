@@ -1,6 +1,6 @@
 -- `grids::grid::ten_of` meets its contract: each column's ten is read off, and past the last there is none.
 -- Assumes nothing.
-use Rattle.record.proofs.TableLaws.{default-at}
+use Rattle.laws.proofs.MatchLaws.{default-at}
 use Rattle.judge.specs.Broken.{groupTens}
 use Rattle.grids.proofs.grid.ten_of.Statement.{statement}
 use Rattle.grids.proofs.grid.ten_of.Tie as tie

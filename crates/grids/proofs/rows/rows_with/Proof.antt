@@ -7,7 +7,7 @@ use lib.ListN.{getD, replicate}
 use borrow.Author.Needs.{needs}
 use Rattle.judge.specs.declared.line.Line.{Line}
 use Rattle.grids.specs.Rows.{rowsRoom}
-use Rattle.grids.proofs.FillLaws.{Putting, putting-start, putting-more, putting-end}
+use Rattle.laws.proofs.PutLaws.{Putting, putting-start, putting-more, putting-end}
 use Rattle.grids.proofs.RowsLaws.{big-copied}
 use Rattle.grids.proofs.rows.rows_with.Statement.{statement}
 use Rattle.grids.proofs.rows.rows_with.Tie as tie
