@@ -4,6 +4,8 @@
 //! Files are numbered 1 to 8, groups 1 to 6 in the order of their tens, and fields from 1, as
 //! everywhere in this library.
 
+use std::sync::atomic::{AtomicU64, Ordering};
+
 use crate::calls;
 
 /// The eight files by name; file n is `FILES[n - 1]`.
@@ -207,10 +209,48 @@ pub fn meaning(file: usize, field: usize) -> &'static str {
     at(file, field).map_or("", |found| found.meaning)
 }
 
+/// The forms of a file's fields: four bits for each field by its number, in which the form's number stands.
+#[derive(Clone, Copy)]
+pub(crate) struct Forms(u64);
+
+/// What the library says of each file's fields, which is asked of it once, and that it was asked.
+static ASKED: [AtomicU64; calls::FILES] = [UNASKED; calls::FILES];
+#[allow(clippy::declare_interior_mutable_const)]
+const UNASKED: AtomicU64 = AtomicU64::new(0);
+const IS_ASKED: u64 = 1 << 63;
+
+impl Forms {
+    pub fn of(file: usize) -> Forms {
+        let asked = match file.checked_sub(1).and_then(|at| ASKED.get(at)) {
+            Some(asked) => asked,
+            None => return Forms(0),
+        };
+        let mut forms = asked.load(Ordering::Relaxed);
+        if forms == 0 {
+            forms = (1..=calls::FIELDS).fold(IS_ASKED, |forms, field| {
+                forms | (calls::form(file, field) as u64) << (4 * field)
+            });
+            asked.store(forms, Ordering::Relaxed);
+        }
+        Forms(forms)
+    }
+
+    pub fn at(self, field: usize) -> Option<Form> {
+        if field > calls::FIELDS {
+            return None;
+        }
+        match self.0 >> (4 * field) & 15 {
+            1 => Some(Form::Text),
+            2 => Some(Form::Sign),
+            3 => Some(Form::Number),
+            4 => Some(Form::Coordinate),
+            _ => None,
+        }
+    }
+}
+
 /// The form of a field, if there is such a field.
 #[must_use]
 pub fn form(file: usize, field: usize) -> Option<Form> {
-    let forms = [Form::Text, Form::Sign, Form::Number, Form::Coordinate];
-    let number = calls::form(file, field);
-    forms.into_iter().find(|form| *form as usize == number)
+    Forms::of(file).at(field)
 }

@@ -3,7 +3,7 @@
 use std::error::Error;
 use std::fmt;
 
-use crate::names::{self, Form};
+use crate::names::{Form, Forms};
 use crate::{calls, fields, length, Reason, FIELDS, TEXT};
 
 /// Why a call refused: a reason (60 to 67, of reading also 20 to 25) and the field, 0 for the record
@@ -52,8 +52,9 @@ pub enum Value {
 pub fn read(file: usize, bytes: &[u8], record: usize) -> Result<Vec<Value>, Refusal> {
     let mut lent = calls::Lent::missing();
     refused(calls::read(file, bytes, record, &mut lent))?;
+    let forms = Forms::of(file);
     Ok((1..=fields(file))
-        .map(|field| value(&lent, file, field))
+        .map(|field| value(&lent, forms, field))
         .collect())
 }
 
@@ -68,8 +69,9 @@ pub fn read(file: usize, bytes: &[u8], record: usize) -> Result<Vec<Value>, Refu
 /// with 63 at a text.
 pub fn write(file: usize, values: &[Value], room: &mut [u8]) -> Result<usize, Refusal> {
     let mut lent = calls::Lent::missing();
+    let forms = Forms::of(file);
     for (place, value) in values.iter().enumerate().take(FIELDS) {
-        if let Some(form) = names::form(file, place + 1) {
+        if let Some(form) = forms.at(place + 1) {
             lend(&mut lent, place, form, value);
         }
     }
@@ -89,10 +91,10 @@ pub(crate) fn refused(answer: u64) -> Result<(), Refusal> {
 }
 
 /// A field's value as the library has read it.
-fn value(lent: &calls::Lent, file: usize, field: usize) -> Value {
+fn value(lent: &calls::Lent, forms: Forms, field: usize) -> Value {
     let place = field - 1;
     let length = lent.lengths[place];
-    match names::form(file, field) {
+    match forms.at(field) {
         Some(Form::Number) if length > 0 => Value::Number(lent.numbers[place]),
         Some(Form::Coordinate) if length > 0 => Value::Coordinate(lent.coordinates[place]),
         Some(Form::Text) if length > 0 => {

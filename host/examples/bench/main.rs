@@ -12,6 +12,7 @@ mod grid;
 mod hostile;
 #[path = "../../tests/places/mod.rs"]
 mod places;
+mod records;
 #[path = "../../tests/throughout/mod.rs"]
 mod throughout;
 
@@ -187,56 +188,6 @@ fn thread() {
     println!("judge, 8 records a file: {own:.3} ms on a thread of its own, {here:.3} ms on the caller's\n");
 }
 
-/// One record read and written, nanoseconds.
-fn one_record() {
-    let mut files = full(&mut Random::new(1), 64);
-    files[OB_COMP] = std::mem::take(&mut composed(&mut Random::new(1), 64)[OB_COMP]);
-    println!("one record, nanoseconds (64 records by turns, 200 times)\n");
-    println!("| file | read | read, independent | write | write, independent |");
-    println!("|---|---|---|---|---|");
-    for (at, bytes) in files.iter().enumerate() {
-        let file = at + 1;
-        let each = |work: &mut dyn FnMut(usize)| {
-            let mut least = f64::MAX;
-            for _ in 0..20 {
-                let time = once(|| {
-                    for _ in 0..10 {
-                        for record in 1..=64 {
-                            work(record);
-                        }
-                    }
-                });
-                least = least.min(time);
-            }
-            least * 1e6 / 640.0
-        };
-        let read = each(&mut |record| {
-            black_box(canopyrail::read(file, black_box(bytes), record)).unwrap();
-        });
-        let read_there = each(&mut |record| {
-            black_box(independent::read(file, black_box(bytes), record)).unwrap();
-        });
-        let ours: Vec<_> = (1..=64)
-            .map(|record| canopyrail::read(file, bytes, record).unwrap())
-            .collect();
-        let theirs: Vec<_> = (1..=64)
-            .map(|record| independent::read(file, bytes, record).unwrap())
-            .collect();
-        let mut room = [0u8; 200];
-        let write = each(&mut |record| {
-            black_box(canopyrail::write(file, &ours[record - 1], &mut room)).unwrap();
-        });
-        let write_there = each(&mut |record| {
-            black_box(independent::write(file, &theirs[record - 1], &mut room)).unwrap();
-        });
-        println!(
-            "| {} | {read:.0} | {read_there:.0} | {write:.0} | {write_there:.0} |",
-            independent::NAMES[at]
-        );
-    }
-    println!();
-}
-
 type Table = (&'static str, fn());
 
 const TABLES: [Table; 9] = [
@@ -249,7 +200,7 @@ const TABLES: [Table; 9] = [
     ("broken", broken::broken_deliveries),
     ("grid", grid::grids),
     ("places", || shared_places(8_192)),
-    ("records", one_record),
+    ("records", records::one_record),
     ("thread", thread),
 ];
 
