@@ -1,0 +1,5 @@
+pub mod LineLaws
+pub mod ColumnLaws
+pub mod RuleLaws
+pub mod SectionLaws
+pub mod Exact
