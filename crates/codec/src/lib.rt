@@ -1,4 +1,6 @@
 // One record of any of the eight files, read as values and written from values.
+#![tactic(auto)]
+
 mod held;
 pub mod read;
 mod refuse;

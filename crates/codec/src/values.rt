@@ -9,7 +9,7 @@ use record::reason::Reason;
 
 // One field's value. Of a number, given and number count; of a coordinate (at the number's field), given and coordinate; of a
 // text, len and the first len bytes of text. A text of no bytes is missing, and so is what isn't given.
-#[derive(Drop)]
+#[derive(Clone, Copy)]
 pub struct Value {
     pub given: bool,
     pub number: u64,
@@ -19,13 +19,13 @@ pub struct Value {
 }
 
 // One record's values: that of field f, counted from 1, is at[f - 1]. Those of signs and past the kind's last field are not looked at.
-#[derive(Drop)]
+#[derive(Clone, Copy)]
 pub struct Values {
     pub at: [Value; MOST_FIELDS],
 }
 
 // The answer of a call on one record.
-#[derive(Drop)]
+#[derive(Clone, Copy)]
 pub enum Answer {
     Done,
     // A reason and a field.
@@ -33,7 +33,7 @@ pub enum Answer {
 }
 
 // The answer of a reading, and the values where it is Done; missing ones else.
-#[derive(Drop)]
+#[derive(Clone, Copy)]
 pub struct Reading {
     pub answer: Answer,
     pub values: Values,

@@ -1,5 +1,7 @@
 // Judges every delivery of its standard input and prints each verdict's line. A delivery is a line with eight decimal lengths, each
 // before a blank or the line feed, and then the bytes of the eight files.
+#![tactic(auto)]
+
 ghost use Rattle.std.specs.Prelude.{◌≡◌, length, ◌+◌, ◌*◌, ◌^◌, ◌<◌, ◌≤◌};
 ghost use Rattle.record.specs.Table.{file_count};
 
@@ -10,7 +12,7 @@ use record::cut::part;
 use record::kind::FILES;
 
 // A number that was read, and the place after the byte that ends it.
-#[derive(Drop)]
+#[derive(Clone, Copy)]
 struct Length {
     pub n: usize,
     pub next: usize,

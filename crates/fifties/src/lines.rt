@@ -170,7 +170,7 @@ fn tally_tramos<'a, 'b>(
 }
 
 // The tallies of the tramos and of the vertices.
-#[derive(Drop)]
+#[derive(Clone, Copy)]
 pub struct Lines {
     pub tramos: Tally,
     pub vertices: Tally,

@@ -1,5 +1,7 @@
 // What the box's programs share: the eight files of the working directory, read into one room. An absent file is an empty one. Where a
 // file is there and can't be read whole, the reason goes to standard error.
+#![tactic(auto)]
+
 ghost use Rattle.std.specs.Prelude.{◌≡◌, map, ◌⊎◌, ◌≤◌, length};
 ghost use Rattle.folder.specs.Folder.{failed, Lengths, any_failed, files_read};
 

@@ -1,5 +1,7 @@
 // The box's second program: reads the eight files from the working directory and prints the grid of all breaks, one row a file. Where a
 // file can't be read, no row is printed.
+#![tactic(auto)]
+
 use folder::{ALL, any_failed, files_in, load_files};
 use grids::rows::program_rows;
 use libc::STDOUT_FILENO;

@@ -18,7 +18,7 @@ const DIGITS: usize = 10;
 pub const ROWS: usize = 528;
 
 // The rows' bytes, or a shorter line's; what lies past it is 0.
-#[derive(Drop)]
+#[derive(Clone, Copy)]
 pub struct Rows {
     pub len: usize,
     pub bytes: [u8; ROWS],

@@ -10,7 +10,7 @@ ghost use Rattle.index.specs.Tally.{no_tally, with_cell};
 use crate::Found;
 use crate::marks::first_marked;
 
-#[derive(Drop)]
+#[derive(Clone, Copy)]
 pub struct Tally {
     pub found: bool,
     pub at: usize,

@@ -13,7 +13,7 @@ use crate::order::sort;
 use crate::twice::distinct;
 
 // How keys are looked up, and whether they are known to differ.
-#[derive(Drop)]
+#[derive(Clone, Copy)]
 pub struct Way {
     pub hinted: bool,
     pub apart: bool,

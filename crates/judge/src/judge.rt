@@ -26,7 +26,7 @@ pub const GROUPS: usize = 6;
 pub const LAST_TEN: usize = 7;
 
 // The first break, where there is one, and beside it how many whole records each file has.
-#[derive(Drop)]
+#[derive(Clone, Copy)]
 pub struct Verdict {
     pub finding: Finding,
     pub counts: [usize; FILES],

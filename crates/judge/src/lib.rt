@@ -1,3 +1,5 @@
 // The verdict on a delivery and its line.
+#![tactic(auto)]
+
 pub mod judge;
 pub mod line;

@@ -17,7 +17,7 @@ pub const BIG: usize = 8192;
 const LINE: usize = 51;
 
 // A line; what lies past it is 0.
-#[derive(Drop)]
+#[derive(Clone, Copy)]
 pub struct Line {
     pub len: usize,
     pub bytes: [u8; LINE],

@@ -1,5 +1,7 @@
 // Holds metadata files against a delivery's counts and sizes and prints a line for each: the case, and the reason and the line of what is
 // wrong first, or OK. The delivery has five records of file 1 and four of file 5.
+#![tactic(auto)]
+
 use field::number::put_number;
 use field::words::put_text;
 use libc::STDOUT_FILENO;

@@ -1,4 +1,6 @@
 // A metadata file beside the files: its lines, what each says, and the rules 80 to 86.
+#![tactic(auto)]
+
 pub mod check;
 mod columns;
 mod line;

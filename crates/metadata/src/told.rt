@@ -1,13 +1,13 @@
 // What a line of a metadata file says.
 
 // A number that a file may have as its count or its size, or a value that is none.
-#[derive(Drop)]
+#[derive(Clone, Copy)]
 pub enum Number {
     Is(u64),
     Odd,
 }
 
-#[derive(Drop)]
+#[derive(Clone, Copy)]
 pub enum Told {
     // Neither a section, a key line nor an empty line.
     Nothing,
@@ -29,14 +29,14 @@ pub enum Told {
 }
 
 // How many lines there are, or the number of the first that is too long or past the most (80).
-#[derive(Drop)]
+#[derive(Clone, Copy)]
 pub enum Cut {
     Lines(usize),
     Long(usize),
 }
 
 // Nothing is broken, or the reason and the line; line 0 is the file as a whole.
-#[derive(Drop)]
+#[derive(Clone, Copy)]
 pub enum Fault {
     Right,
     At(usize, usize),

@@ -34,7 +34,7 @@ pub const MOST_FIELDS: usize = 14;
 
 pub const WIDEST: usize = 60;
 
-#[derive(Drop)]
+#[derive(Clone, Copy)]
 pub enum Kind {
     Catalogo,
     ObPun,
@@ -47,14 +47,14 @@ pub enum Kind {
 }
 
 // The kind of a file's number, where there is one.
-#[derive(Drop)]
+#[derive(Clone, Copy)]
 pub enum Which {
     NoFile,
     File(Kind),
 }
 
 // What a field holds: words, a CODIGO, a coordinate's sign; a number, the size of a coordinate.
-#[derive(Drop)]
+#[derive(Clone, Copy)]
 pub enum Form {
     Words,
     Code,
@@ -65,7 +65,7 @@ pub enum Form {
 
 // What a field may say, where its bytes are sound: anything; of words P, X, L, T or C; + or -; A, C, E, I or H; of numbers degrees and
 // minutes; 1 to 9.
-#[derive(Drop)]
+#[derive(Clone, Copy)]
 pub enum Domain {
     Any,
     ObjectType,
@@ -76,7 +76,7 @@ pub enum Domain {
 }
 
 // What a field refers to: nothing; a record of a file that is not there; the records of a kind, by a field of theirs.
-#[derive(Drop)]
+#[derive(Clone, Copy)]
 pub enum Target {
     Free,
     Nowhere,

@@ -1,5 +1,7 @@
 // The record layer: the kinds of file, the rules of a file's shape and of its fields (reasons 10, 11 and 20 to 25), and what the
 // records of a file say, for the layers above.
+#![tactic(auto)]
+
 pub mod check;
 pub mod columns;
 pub mod count;

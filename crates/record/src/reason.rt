@@ -3,7 +3,7 @@ ghost use Rattle.std.specs.Prelude.{◌≡◌};
 ghost use Rattle.record.specs.Breaks.{number_of, fine};
 
 // The reasons of documents 01 and 02, each with its number in its name.
-#[derive(Drop)]
+#[derive(Clone, Copy)]
 pub enum Reason {
     // The file is longer than 16,384 records' bytes.
     LongFile10,
@@ -85,7 +85,7 @@ pub enum Reason {
 
 // A reason and its place. Files, records and fields are counted from 1; field 0 is the record, and record 0 the file. File 0 is the
 // metadata, and its record the line.
-#[derive(Drop)]
+#[derive(Clone, Copy)]
 pub struct Break {
     pub reason: Reason,
     pub file: usize,
@@ -94,7 +94,7 @@ pub struct Break {
 }
 
 // What a search for the first break gives.
-#[derive(Drop)]
+#[derive(Clone, Copy)]
 pub enum Finding {
     Fine,
     Broken(Break),

@@ -88,7 +88,7 @@ fn is_elsewhere<'a, 'b>(
 }
 
 // Of which of a tramo's ends a search asks.
-#[derive(Drop)]
+#[derive(Clone, Copy)]
 pub enum End {
     Start,
     Last,

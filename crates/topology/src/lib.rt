@@ -1,4 +1,6 @@
 // Topology: vertex numbering, line ends and nodes, objects in use. Reasons 50 to 59.
+#![tactic(auto)]
+
 pub mod ends;
 pub mod nodes;
 pub mod orders;

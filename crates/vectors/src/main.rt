@@ -1,5 +1,7 @@
 // Reads every record of the files that its arguments name, prints its values or the refusal, writes the values back and says
 // whether the bytes are the same. A name's first byte is the file's number.
+#![tactic(auto)]
+
 ghost use Rattle.std.specs.Prelude.{◌<◌};
 
 use codec::read::read;

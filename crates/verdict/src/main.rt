@@ -1,5 +1,7 @@
 // The box's program: reads the eight files from the working directory and prints the verdict's one line. Where a file can't be read, no
 // line is printed.
+#![tactic(auto)]
+
 use folder::{ALL, any_failed, files_in, load_files};
 use judge::line::program_line;
 use libc::STDOUT_FILENO;

@@ -1,5 +1,7 @@
 // Makes the writing call's cases of document 01, "Single-record calls add", and some of the reading call's, and prints a line for
 // each: the case, the answer, and what became of the room, which is filled with byte AA before the call.
+#![tactic(auto)]
+
 use codec::read::read;
 use codec::values::{
     Answer, Value, Values, coordinate_value, missing_value, number_value, text_value,

@@ -5,11 +5,7 @@ use lib.IntN.{ℤ, pos}
 use lib.Signed.{lt_z}
 use mir.Facts.{to_z-of_z}
 use Rattle.field.proofs.SignLaws.{below-zero}
-use Rattle.field.proofs.number.negative.Statement.{statement}
-use Rattle.field.proofs.number.negative.Tie as tie
+use Rattle.field.proofs.number.negative.Goals as goal
 
-returns : tie.Need-returns
+pub returns : goal.returns
 returns c = ap (λ (x : ℤ). lt_z x (pos 0)) (to_z-of_z c.ranges.z) ∙ below-zero c.args.z
-
-pub negative-spec : {M : Type 1} → statement M
-negative-spec = tie.close (tie.spec returns)
