@@ -240,7 +240,7 @@ impl Kind {
 
     // 1 where the record's own id stands for a blank.
     fn owns(self) -> u64
-        ensures { result ≡ packed_of (λ cs f. pick (get_or cs f whole).own_val 1 0) self }
+        ensures { result ≡ packed_of (λ cs f. pick (get_or cs f whole).own 1 0) self }
     {
         match self {
             Kind::Catalogo => 0x0000000000000000,

@@ -1,0 +1,8 @@
+-- `record::files::is_few` meets its contract: a kind gives how many records its file has.
+-- Assumes nothing.
+use Rattle.record.proofs.FileLaws.{few-none, few-file}
+use borrow.Author.Rules.{rules}
+use Rattle.record.proofs.files.is_few.Goals as goal
+
+pub returns-in-File : goal.returns-in-File
+returns-in-File c = λ e. few-file _ c.in-File.is c.file_of.ensures c.rows.ensures.value e

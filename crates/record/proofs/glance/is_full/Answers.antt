@@ -1,0 +1,9 @@
+-- `record::glance::is_full` meets its contract.
+-- Assumes nothing.
+use Rattle.record.specs.machinery.Glance.{full}
+use borrow.Author.Rules.{rules}
+use Rattle.record.proofs.glance.is_full.Goals as goal
+
+pub returns : goal.returns
+unfolding full
+returns c = simp (c.every.ensures, c.byte.ensures)

@@ -1,0 +1,14 @@
+-- `record::kind::Kind::back` meets its contract.
+-- Assumes nothing.
+use native.Mathlib.Omega.{arith}
+use mathlib.Core.Path.{refl, ◌∙◌}
+use Rattle.laws.specs.Row.{row, each}
+use Rattle.record.specs.Table.{Col, back_at}
+use Rattle.record.proofs.TableLaws.{everywhere}
+use Rattle.record.proofs.PackedLaws.{read_at}
+use borrow.Author.Rules.{rules}
+use Rattle.record.proofs.kind.Kind.back.Goals as goal
+
+pub returns : goal.returns
+unfolding everywhere each row back_at
+returns c = record { value = c.digit_at.ensures.value ∙ read_at (λ (x : Col). x.back) refl refl c.args.self c.args.f c.backs.ensures; small = omega (arith, c.digit_at.ensures.small) }

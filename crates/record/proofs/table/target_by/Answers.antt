@@ -1,0 +1,18 @@
+-- `record::table::target_by` meets its contract.
+-- Assumes nothing.
+use borrow.Author.Rules.{rules}
+use borrow.Author.Tests.{eq-eqb, ne_eqb}
+use Rattle.record.specs.machinery.Packed.{target_by}
+use Rattle.record.proofs.table.target_by.Goals as goal
+
+pub returns-then-file-eq15 : goal.returns-then-file-eq15
+unfolding target_by
+returns-then-file-eq15 c = rw (eq-eqb _ 15 c.if-file-eq15.true)
+
+pub returns-in-NoFile : goal.returns-in-NoFile
+unfolding target_by
+returns-in-NoFile c = rw (ne_eqb _ 15 c.if-file-eq15.false, ← c.kind_of.ensures, c.in-NoFile.is)
+
+pub returns-in-File : goal.returns-in-File
+unfolding target_by
+returns-in-File c = rw (ne_eqb _ 15 c.if-file-eq15.false, ← c.kind_of.ensures, c.in-File.is)
