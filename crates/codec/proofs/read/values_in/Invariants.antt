@@ -1,0 +1,19 @@
+-- `codec::read::values_in` meets its contract.
+-- Assumes nothing.
+use Prim.Native.Nat.{◌-◌, ◌≤◌}
+use mathlib.Core.List.{[]}
+use mathlib.Core.Path.{◌≡◌, refl, ap}
+use native.Mathlib.Omega.{arith}
+use lib.ListN.{length, take, length-set}
+use borrow.Author.Rules.{rules}
+use Rattle.laws.specs.Row.{row}
+use Rattle.laws.proofs.RowLaws.{row-start, row_more, row-end}
+use Rattle.codec.specs.Values.{values_in}
+use Rattle.codec.proofs.ReadLaws.{value_no}
+use Rattle.codec.proofs.read.values_in.Given as goal
+
+abbrev pub invariant-loop-i : goal.invariant-loop-i
+invariant-loop-i l = (l.i ≤ 14) × (length l.at ≡ 14) × (take l.i l.at ≡ row (value_no l.rec l.k) l.i)
+
+abbrev pub decreases-loop-i : goal.decreases-loop-i
+decreases-loop-i l = 14 - l.i

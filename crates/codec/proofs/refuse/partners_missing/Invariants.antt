@@ -1,0 +1,18 @@
+-- `codec::refuse::partners_missing` meets its contract: the loop stops at the first partner that is not blank.
+-- Assumes nothing.
+use Prim.Native.Nat.{ℕ, ◌-◌}
+use mathlib.Core.List.{List}
+use lib.IntN.{ℤ}
+use native.Mathlib.Omega.{arith}
+use Rattle.laws.proofs.RowLaws.{Left, left-all, left-more, left-stop, left-none}
+use Rattle.codec.specs.Refusals.{blank_at, partners_missing}
+use Rattle.codec.specs.machinery.Held.{held_at, say_by}
+use Rattle.codec.proofs.RefuseLaws.{partners-near}
+use borrow.Author.Rules.{rules}
+use Rattle.codec.proofs.refuse.partners_missing.Given as goal
+
+abbrev pub invariant-loop-j : goal.invariant-loop-j
+invariant-loop-j l = (n' : List ℕ) (z : List ℤ) (t : List ℕ) → Left (λ b. b) (blank_at l.k (say_by l.k (held_at n' z l.lengths t))) (partners_missing l.k (say_by l.k (held_at n' z l.lengths t)) l.f) l.from l.n l.j
+
+abbrev pub decreases-loop-j : goal.decreases-loop-j
+decreases-loop-j l = l.n - l.j

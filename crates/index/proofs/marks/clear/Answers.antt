@@ -1,0 +1,22 @@
+-- `index::marks::clear` meets its contract. The loop's invariant: the first `i` are not marked.
+-- Assumes nothing.
+use Prim.Native.Nat.{◌-◌}
+use mathlib.Core.Bool.{false}
+use mathlib.Core.Path.{refl}
+use Rattle.index.specs.Marks.{Marked}
+use Rattle.index.proofs.MarkLaws.{marked_start, marked_more, marked-end}
+use borrow.Author.Rules.{rules}
+use native.Mathlib.Omega.{arith}
+use Rattle.index.proofs.marks.clear.Goals as goal
+
+pub loop-i-init : goal.loop-i-init
+loop-i-init c = marked_start _ _
+
+pub bounds-marks-i : goal.bounds-marks-i
+bounds-marks-i c = omega (arith, c.loop-i.invariant.long)
+
+pub loop-i-preserved : goal.loop-i-preserved
+loop-i-preserved c = marked_more (omega (arith, c.loop-i.invariant.long)) refl c.loop-i.invariant
+
+pub returns : goal.returns
+returns c = marked-end _ refl c.loop-i-test.false c.loop-i.invariant

@@ -1,0 +1,28 @@
+-- `index::twice::repeat_in` meets its contract. The invariants: none of the first `r` equals an earlier one; and none of the first `e` equals the key in hand.
+-- Assumes nothing.
+use Rattle.laws.specs.Find.{first_index}
+use Rattle.laws.proofs.FindLaws.{index-start, index-more, index-here, index-end, any_here}
+use Rattle.index.specs.declared.Found.TheVariants.{Nothing}
+use Rattle.index.specs.Keys.{found_of, first_duplicate}
+use Rattle.index.proofs.TwiceLaws.{scanned, span-under}
+use Prim.Native.Nat.{◌≤◌, ◌-◌}
+use mathlib.Core.Path.{◌≡◌, refl, sym, ap, ◌∙◌}
+use mathlib.Core.Option.{none}
+use native.Mathlib.Omega.{arith}
+use lib.Dec.{eqb}
+use lib.ListN.{get_or}
+use borrow.Author.Rules.{rules}
+use borrow.Author.Tests.{eq-eqb, ne_eqb}
+use Rattle.index.proofs.twice.repeat_in.Given as goal
+
+abbrev pub invariant-earlier : goal.invariant-earlier
+invariant-earlier l = (l.e ≤ l.end) × (first_index (λ j. eqb (get_or l.keys j 0) l.k) l.e ≡ none) × (l.found ≡ Nothing)
+
+abbrev pub decreases-earlier : goal.decreases-earlier
+decreases-earlier l = l.end - l.e
+
+abbrev pub invariant-later : goal.invariant-later
+invariant-later l = (l.r ≤ l.n) × (first_duplicate (λ j. get_or l.keys j 0) l.r ≡ none) × (l.found ≡ Nothing)
+
+abbrev pub decreases-later : goal.decreases-later
+decreases-later l = l.n - l.r

@@ -1,0 +1,20 @@
+-- `metadata::rules::first_81` meets its contract.
+-- Assumes nothing.
+use Prim.Native.Nat.{◌+◌, ◌-◌, ◌≤◌}
+use mathlib.Core.List.{List, map}
+use mathlib.Core.Path.{◌≡◌, sym, ◌∙◌}
+use native.Mathlib.Omega.{arith}
+use lib.ListN.{length}
+use borrow.Author.Tests.{eq-eqb, ne_eqb}
+use Rattle.metadata.specs.declared.told.Told.{Told}
+use Rattle.metadata.specs.Told.{kind_of}
+use Rattle.metadata.specs.Rules.{breaks81}
+use Rattle.metadata.proofs.RuleLaws.{kind_at, kinds-long, Clear, clear-81, clear-more, found, unfound, is-81}
+use borrow.Author.Rules.{rules}
+use Rattle.metadata.proofs.rules.first_81.Given as goal
+
+abbrev pub invariant-loop-i : goal.invariant-loop-i
+invariant-loop-i l = (l.i ≤ length l.kinds) × ((ts : List Told) → l.kinds ≡ map kind_of ts → Clear (breaks81 ts) (l.i + 1))
+
+abbrev pub decreases-loop-i : goal.decreases-loop-i
+decreases-loop-i l = length l.kinds - l.i

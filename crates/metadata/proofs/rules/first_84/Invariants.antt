@@ -1,0 +1,21 @@
+-- `metadata::rules::first_84` meets its contract.
+-- Assumes nothing.
+use Prim.Native.Nat.{ℕ, ◌+◌, ◌-◌, ◌≤◌}
+use mathlib.Core.List.{List, map}
+use mathlib.Core.Path.{◌≡◌, sym, ap, ◌∙◌}
+use native.Mathlib.Omega.{arith}
+use lib.Dec.{eqb}
+use lib.ListN.{length}
+use Rattle.metadata.specs.declared.told.Told.{Told}
+use Rattle.metadata.specs.Told.{kind_of}
+use Rattle.metadata.specs.Rules.{is_name, is_count, is_size, line_at, breaks84}
+use Rattle.metadata.proofs.RuleLaws.{kind_at, kinds-long, Clear, clear-more, found, unfound}
+use Rattle.metadata.proofs.SectionLaws.{Standing, standing-start, standing-head, standing-more, head-84, key-84, clear-84}
+use borrow.Author.Rules.{rules}
+use Rattle.metadata.proofs.rules.first_84.Given as goal
+
+abbrev pub invariant-loop-i : goal.invariant-loop-i
+invariant-loop-i l = (l.i ≤ length l.kinds) × ((ts : List Told) → l.kinds ≡ map kind_of ts → Clear (breaks84 ts) (l.i + 1) × Standing is_name ts l.inside l.name l.i × Standing is_count ts l.inside l.count l.i × Standing is_size ts l.inside l.size l.i)
+
+abbrev pub decreases-loop-i : goal.decreases-loop-i
+decreases-loop-i l = length l.kinds - l.i

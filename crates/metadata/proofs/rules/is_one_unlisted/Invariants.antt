@@ -1,0 +1,21 @@
+-- `metadata::rules::is_one_unlisted` meets its contract.
+-- Assumes nothing.
+use Prim.Native.Nat.{◌-◌, ◌≤◌}
+use mathlib.Core.List.{List, map}
+use mathlib.Core.Path.{◌≡◌, sym, ◌∙◌}
+use mathlib.Core.Bool.{false}
+use native.Mathlib.Omega.{arith}
+use Rattle.laws.specs.Find.{any}
+use Rattle.metadata.specs.declared.told.Told.{Told}
+use Rattle.metadata.specs.Told.{kind_of, figure_of}
+use Rattle.laws.proofs.FindLaws.{any-start, any_next, any-true, any-end}
+use Rattle.metadata.specs.Rules.{most_files}
+use Rattle.metadata.proofs.SectionLaws.{Unlisted, is-unlisted, file-unlisted}
+use borrow.Author.Rules.{rules}
+use Rattle.metadata.proofs.rules.is_one_unlisted.Given as goal
+
+abbrev pub invariant-loop-f : goal.invariant-loop-f
+invariant-loop-f l = (l.f ≤ most_files) × ((ts : List Told) → l.kinds ≡ map kind_of ts → l.figures ≡ map figure_of ts → any (Unlisted l.counts ts) l.f ≡ false)
+
+abbrev pub decreases-loop-f : goal.decreases-loop-f
+decreases-loop-f l = most_files - l.f
