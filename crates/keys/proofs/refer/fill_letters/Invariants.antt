@@ -1,0 +1,17 @@
+-- `keys::refer::fill_letters` meets its contract. The loop's invariant: the letters of the first `j` records are in the array.
+-- Assumes nothing.
+use Prim.Native.Nat.{◌-◌}
+use mathlib.Core.Path.{◌≡◌, refl}
+use lib.ListN.{length, length-set}
+use native.Mathlib.Omega.{arith}
+use Rattle.record.specs.declared.kind.Kind.TheVariants.{Catalogo}
+use Rattle.record.specs.Says.{table_of}
+use Rattle.keys.proofs.TypeLaws.{Spelt, spelt-start, spelt-more, letters-end}
+use borrow.Author.Rules.{rules}
+use Rattle.keys.proofs.refer.fill_letters.Given as goal
+
+abbrev pub invariant-loop-j : goal.invariant-loop-j
+invariant-loop-j l = (length l.out ≡ length l.initial.out) × Spelt (table_of l.cat Catalogo) l.out l.j
+
+abbrev pub decreases-loop-j : goal.decreases-loop-j
+decreases-loop-j l = l.n - l.j

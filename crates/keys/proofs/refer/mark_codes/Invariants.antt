@@ -1,0 +1,24 @@
+-- `keys::refer::mark_codes` meets its contract. The loop's invariant: the marks of the first `i` codes say which aren't catalogued, and which are under another type.
+-- Assumes nothing.
+use Prim.Native.Nat.{◌-◌}
+use mathlib.Core.Path.{refl, ap, ◌∙◌}
+use lib.ListN.{get_or}
+use native.Mathlib.Omega.{arith}
+use Rattle.laws.specs.Count.{bit}
+use Rattle.index.specs.Marks.{Marked}
+use Rattle.index.proofs.LookLaws.{sought-below}
+use Rattle.index.proofs.MarkLaws.{marked_start, marked_more, marked-end}
+use Rattle.keys.specs.Rules.{dangles}
+use Rattle.keys.specs.machinery.Types.{mistyped_by}
+use Rattle.keys.proofs.ReferLaws.{missed-dangles}
+use Rattle.keys.proofs.TypeLaws.{other-mistyped}
+use borrow.Author.Rules.{rules}
+use Rattle.keys.proofs.refer.mark_codes.Given as goal
+
+abbrev pub invariant-loop-i : goal.invariant-loop-i
+invariant-loop-i l =
+    Marked l.initial.marks l.marks (λ j. dangles (λ r. get_or l.codes r 0) l.n (get_or l.refs j 0)) l.i
+    × Marked l.initial.others l.others (λ j. mistyped_by l.codes l.letters l.n l.wanted (get_or l.refs j 0)) l.i
+
+abbrev pub decreases-loop-i : goal.decreases-loop-i
+decreases-loop-i l = l.m - l.i

@@ -1,0 +1,19 @@
+-- `keys::refer::mark_types` meets its contract. The loop's invariant: of the first `j` codes those of the type are marked at the records that look-ups find.
+-- Assumes nothing.
+use Prim.Native.Nat.{◌-◌, ◌≤◌}
+use mathlib.Core.Path.{◌≡◌, refl, ◌∙◌}
+use lib.Dec.{eqb}
+use lib.ListN.{length, get_or, length-set}
+use native.Mathlib.Omega.{arith}
+use Rattle.index.proofs.LookLaws.{sought-record}
+use Rattle.keys.specs.machinery.Types.{Typing}
+use Rattle.keys.proofs.TypeLaws.{typing-start, typing-more, own-found, types-apart, types-end}
+use borrow.Author.Rules.{rules}
+use Rattle.keys.proofs.refer.mark_types.Given as goal
+
+abbrev pub invariant-loop-j : goal.invariant-loop-j
+invariant-loop-j l =
+    (l.j ≤ l.n) × (length l.types ≡ length l.initial.types) × Typing l.codes l.order l.hints l.way.hinted l.n (λ i. eqb (get_or l.letters i 0) l.wanted) l.types l.j
+
+abbrev pub decreases-loop-j : goal.decreases-loop-j
+decreases-loop-j l = l.n - l.j
