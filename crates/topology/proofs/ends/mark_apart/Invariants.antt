@@ -1,0 +1,28 @@
+-- `topology::ends::mark_apart` meets its contract. The loop's invariant: the marks of the tramos before `i` say whether the end lies elsewhere than its node, and their nodes are in use.
+-- Assumes nothing.
+use Prim.Native.Nat.{◌≤◌, ◌-◌}
+use mathlib.Core.Path.{refl, ap, ◌∙◌}
+use lib.ListN.{get_or}
+use native.Mathlib.Omega.{arith}
+use Rattle.laws.specs.Count.{bit}
+use Rattle.laws.specs.Find.{names}
+use Rattle.index.specs.Keys.{listed}
+use Rattle.index.specs.Marks.{Marked}
+use Rattle.index.proofs.LookLaws.{sought-below}
+use Rattle.index.proofs.MarkLaws.{marked_start, marked_more, marked-end}
+use Rattle.record.specs.declared.kind.Kind.TheVariants.{Vertice, Nodo}
+use Rattle.record.specs.Says.{table_of}
+use Rattle.topology.specs.machinery.Ends.{apart_at}
+use Rattle.topology.specs.machinery.Used.{Used}
+use Rattle.topology.proofs.UsedLaws.{used_start, used-more, used-end}
+use borrow.Author.Rules.{rules}
+use Rattle.topology.proofs.ends.mark_apart.Given as goal
+
+abbrev pub invariant-loop-i : goal.invariant-loop-i
+invariant-loop-i l =
+    (l.i ≤ l.t)
+    × Marked l.initial.marks l.marks (λ j. apart_at l.end (table_of l.vertice Vertice) (table_of l.nodo Nodo) (get_or l.ends j 0) (get_or l.wanted j 0)) l.i
+    × Used l.ids l.ranks l.nodes l.by.hinted l.m l.initial.used l.used (names (listed l.wanted) l.i)
+
+abbrev pub decreases-loop-i : goal.decreases-loop-i
+decreases-loop-i l = l.t - l.i

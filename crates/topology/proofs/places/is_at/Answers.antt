@@ -1,0 +1,7 @@
+-- `topology::places::is_at` meets its contract.
+-- Assumes nothing.
+use borrow.Author.Rules.{rules}
+use Rattle.topology.proofs.places.is_at.Goals as goal
+
+pub returns : goal.returns
+returns c = simp (c.y_at.ensures.value, c.x_at.ensures.value)

@@ -1,0 +1,16 @@
+-- `topology::tops::clear_tops` meets its contract. The loop's invariant: the first `i` are 0.
+-- Assumes nothing.
+use Prim.Native.Nat.{◌-◌}
+use mathlib.Core.Path.{◌≡◌, refl}
+use native.Mathlib.Omega.{arith}
+use lib.ListN.{length, length-set}
+use Rattle.topology.specs.machinery.Lent.{Holds}
+use Rattle.topology.proofs.LentLaws.{holds-start, holds_more, holds-end}
+use borrow.Author.Rules.{rules}
+use Rattle.topology.proofs.tops.clear_tops.Given as goal
+
+abbrev pub invariant-loop-i : goal.invariant-loop-i
+invariant-loop-i l = (length l.tops ≡ length l.initial.tops) × Holds l.tops (λ j. 0) l.i
+
+abbrev pub decreases-loop-i : goal.decreases-loop-i
+decreases-loop-i l = l.n - l.i

@@ -1,0 +1,18 @@
+-- `topology::tops::highest_of` meets its contract. The vertex that is found for the line has its highest key.
+-- Assumes nothing.
+use native.Mathlib.Omega.{arith}
+use Rattle.topology.proofs.TopLaws.{top-none, top_below, top-found}
+use borrow.Author.Rules.{rules}
+use Rattle.topology.proofs.tops.highest_of.Goals as goal
+
+pub offset_bounds-tops-r : goal.offset_bounds-tops-r
+offset_bounds-tops-r c = let h = top_below c.requires _ c.look-found.ensures.sought c.in-At.is in omega arith
+
+pub bounds-tops-r : goal.bounds-tops-r
+bounds-tops-r c = let h = top_below c.requires _ c.look-found.ensures.sought c.in-At.is in omega arith
+
+pub returns-in-Nothing : goal.returns-in-Nothing
+returns-in-Nothing c = top-none c.requires _ c.look-found.ensures.sought c.in-Nothing.is
+
+pub returns-in-At : goal.returns-in-At
+returns-in-At c = top-found c.requires _ c.look-found.ensures.sought c.look-found.ensures.same c.in-At.is
