@@ -1,0 +1,16 @@
+-- `fifties::group::check_topology` meets its contract. The loop's invariant: the files before number `n` give nothing.
+-- Assumes nothing.
+use Prim.Native.Nat.{◌+◌, ◌-◌}
+use mathlib.Core.List.{map}
+use Rattle.record.specs.Table.{file_count}
+use Rattle.record.specs.Files.{files_of, delivery_of}
+use Rattle.fifties.specs.machinery.Findings.{topology_in, topology_finding}
+use Rattle.keys.proofs.OverLaws.{Onward, files-start, files-more, files-here, files-end}
+use borrow.Author.Rules.{rules}
+use Rattle.fifties.proofs.group.check_topology.Given as goal
+
+abbrev pub invariant-loop-n : goal.invariant-loop-n
+invariant-loop-n l = Onward (topology_in (delivery_of (files_of (map (λ x. x.now) l.files)))) l.n
+
+abbrev pub decreases-loop-n : goal.decreases-loop-n
+decreases-loop-n l = file_count + 1 - l.n
