@@ -53,7 +53,7 @@ tally_in_hand-requires c =    let p = c.requires in
     let f = rw d at (read-fills (omega (arith, l, p.4)) c.fill_names-m.ensures) in
     (
       c.tally_lines-lines.ensures.tramos_value,
-      c.tally_lines-lines.ensures.others.0,
+      c.tally_lines-lines.ensures.others,
       c.prepare-by.ensures,
       f,
       positions-with f (rw d at c.fill_positions.ensures),
@@ -67,8 +67,8 @@ tally_in_hand-requires c =    let p = c.requires in
       omega (arith, c.keys-1.given, p.2),
       omega (arith, c.key_order-1.given, p.3),
       omega (arith, c.marks-1.given, p.15),
-      named-then (named_start _ _ _ _ (omega (arith, f.count, p.0 Nodo, p.16)) c.clear.ensures) c.tally_lines-lines.ensures.others.1.0,
-      c.tally_lines-lines.ensures.others.1.1,
+      named-then (named_start _ _ _ _ (omega (arith, f.count, p.0 Nodo, p.16)) c.clear.ensures) c.tally_lines-lines.ensures.held,
+      c.tally_lines-lines.ensures.tipped,
     )
 
 pub shape_of-keys : goal.shape_of-keys

@@ -79,4 +79,4 @@ pub shape_of-marks : goal.shape_of-marks
 shape_of-marks c = omega (arith, c.marks-2-1.given, c.marks-1.given)
 
 pub returns : goal.returns
-returns c =    (c.tally_tramos-tramos.ensures.value, (c.tally_vertices-vertices.ensures, (c.tally_tramos-tramos.ensures.held.0, c.tally_tramos-tramos.ensures.held.1)))
+returns c = record { tramos_value = c.tally_tramos-tramos.ensures.value; others = c.tally_vertices-vertices.ensures; held = c.tally_tramos-tramos.ensures.held; tipped = c.tally_tramos-tramos.ensures.tipped }

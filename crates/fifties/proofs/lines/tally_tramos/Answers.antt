@@ -78,7 +78,4 @@ pub shape_of-marks : goal.shape_of-marks
 shape_of-marks c = omega (arith, c.marks-1.given)
 
 pub returns : goal.returns
-returns c =    let p = c.requires in (
-      c.tally_ends.ensures.value,
-      (c.tally_ends.ensures.held, tips-lent _ p.1 (omega (arith, p.1.count, p.5 Vertice, p.12)) c.prepare_ends-t.ensures.marked),
-    )
+returns c =    let p = c.requires in record { value = c.tally_ends.ensures.value; held = c.tally_ends.ensures.held; tipped = tips-lent _ p.1 (omega (arith, p.1.count, p.5 Vertice, p.12)) c.prepare_ends-t.ensures.marked }
