@@ -1,0 +1,19 @@
+-- `canopyrail::delivery::canopyrail_judge` meets its contract.
+-- Assumes nothing.
+use mathlib.Core.Path.{ap, ◌∙◌}
+use borrow.Author.Rules.{rules}
+use Rattle.record.specs.Files.{Files}
+use Rattle.judge.specs.declared.judge.Verdict.{Verdict}
+use Rattle.judge.specs.Verdict.{judged, verdict_of}
+use Rattle.canopyrail.specs.Answers.{finding_word}
+use Rattle.canopyrail.proofs.CallLaws.{none_lent}
+use Rattle.canopyrail.proofs.delivery.canopyrail_judge.Goals as goal
+
+pub returns-then-files-eq0 : goal.returns-then-files-eq0
+returns-then-files-eq0 c = none_lent (λ x. x.now) c.args.files.now c.if-files-eq0.true
+
+pub returns : goal.returns
+unfolding verdict_of
+returns c =    c.finding_word.ensures
+    ∙ ap (λ (v : Verdict). finding_word v.finding) c.judge-v.ensures
+    ∙ ap (λ (files : Files). finding_word (judged files)) c.all_files.ensures
