@@ -2,14 +2,15 @@
 // before a blank or the line feed, and then the bytes of the eight files.
 #![tactic(auto)]
 
-ghost use Rattle.std.specs.Prelude.{◌≡◌, length, ◌+◌, ◌*◌, ◌^◌, ◌<◌, ◌≤◌};
+ghost use Rattle.std.specs.Prelude.{◌≡◌, length, ◌+◌, ◌*◌, ◌^◌, ◌<◌, ◌≤◌, IfOk};
 ghost use Rattle.record.specs.Table.{file_count};
 
 use judge::judge::judge;
 use judge::line::line_of;
-use libc::{STDIN_FILENO, STDOUT_FILENO};
 use record::cut::part;
 use record::kind::FILES;
+use std::io;
+use std::io::{Read, Write};
 
 // A number that was read, and the place after the byte that ends it.
 #[derive(Clone, Copy)]
@@ -47,10 +48,10 @@ fn length_at(s: &[u8], at: usize) -> Length
     Length { n, next: at + i }
 }
 
-fn say_verdict<'a>(files: [&'a [u8]; FILES]) {
+fn say_verdict<'a, W: Write>(out: &mut W, files: [&'a [u8]; FILES]) -> io::Result<()> {
     let line = line_of(judge(files));
     let bytes = line.bytes;
-    io::write_all(STDOUT_FILENO, part(&bytes, 0, line.len));
+    out.write_all(part(&bytes, 0, line.len))
 }
 
 // The place after the lengths at a place.
@@ -70,9 +71,9 @@ fn after_lengths(s: &[u8], at: usize) -> usize
 }
 
 // Judges the delivery at a place and answers the place after it.
-fn judge_at(s: &[u8], at: usize) -> usize
+fn judge_at<W: Write>(out: &mut W, s: &[u8], at: usize) -> io::Result<usize>
     requires { at < 2 ^ 31 }
-    ensures { at < result }
+    ensures { IfOk result (λ next. at < next) }
 {
     let mut from = after_lengths(s, at);
     let mut files = [s; FILES];
@@ -86,17 +87,33 @@ fn judge_at(s: &[u8], at: usize) -> usize
         next = length.next;
         n += 1;
     }
-    say_verdict(files);
-    from
+    say_verdict(out, files)?;
+    Ok(from)
 }
 
-fn judge_all(s: &[u8])
+fn judge_all<W: Write>(out: &mut W, s: &[u8]) -> io::Result<()>
     requires { length s.now < 2 ^ 31 }
 {
     let mut at = 0;
     while at < s.len() {
-        at = judge_at(s, at);
+        at = judge_at(out, s, at)?;
     }
+    Ok(())
+}
+
+// Reads to the end, or until the room is full, and answers how many bytes it read.
+fn read_full<R: Read>(from: &mut R, room: &mut [u8]) -> io::Result<usize>
+    ensures { IfOk result (λ n. n ≤ length room.new) }
+{
+    let mut done = 0;
+    while done < room.len() {
+        let n = from.read(&mut room[done..])?;
+        if n == 0 {
+            return Ok(done);
+        }
+        done += n;
+    }
+    Ok(done)
 }
 
 // Room for what is read.
@@ -106,8 +123,8 @@ fn room() -> [u8; 2097152]
     [0; 2097152]
 }
 
-fn main() {
+fn main(rt: HostRuntime) -> io::Result<()> {
     let mut buffer = room();
-    let n = io::read_full(STDIN_FILENO, &mut buffer);
-    judge_all(&buffer[..n]);
+    let n = read_full(&mut rt.stdin(), &mut buffer)?;
+    judge_all(&mut rt.stdout(), &buffer[..n])
 }

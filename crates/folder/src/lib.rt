@@ -8,6 +8,10 @@ ghost use Rattle.folder.specs.Folder.{failed, Lengths, any_failed, files_read};
 use judge::line::BIG;
 use record::cut::part;
 use record::kind::FILES;
+use std::fs::File;
+use std::io;
+use std::io::{ErrorKind, Read, Write};
+use std::rt::Files;
 
 // One byte more than a program takes of a file is room enough: what is printed of a file that fills it is BIG, whatever follows.
 pub const ROOM: usize = BIG + 1;
@@ -18,44 +22,75 @@ pub const ALL: usize = ROOM * FILES;
 // Instead of a file's length: it can't be read, which was told on standard error.
 const FAILED: usize = ROOM + 1;
 
+// Room for what the system says of an error, and how the number begins that stands behind its words.
+const TEXT: usize = 320;
+
+const NUMBER: &[u8] = b" (os error ";
+
+// How many of the first n bytes of a system error's text are left without its number, which stands behind the words.
+fn without_number(text: &[u8], n: usize) -> usize {
+    for k in 0..n {
+        if part(text, k, NUMBER.len()) == NUMBER {
+            return k;
+        }
+    }
+    n
+}
+
+// Says on standard error what failed: the file's name, a colon and the system's words. Where that can't be said either, nothing is.
+pub fn fail<E: Write>(err: &mut E, name: &str, error: &io::Error) {
+    let mut text = [0u8; TEXT];
+    let mut left = &mut text[..];
+    let _ = write!(left, "{error}");
+    let n = TEXT.saturating_sub(left.len());
+    let words = part(&text, 0, without_number(&text, n));
+    let _ = err.write_all(name.as_bytes());
+    let _ = err.write_all(b": ");
+    let _ = err.write_all(words);
+    let _ = err.write_all(b"\n");
+}
+
 // Reads to the end of the file, or until the room is full, and answers how many bytes it read.
-fn load_from(fd: i32, name: &[u8], buf: &mut [u8]) -> usize
+fn load_from<F: Read, E: Write>(file: &mut F, err: &mut E, name: &str, buf: &mut [u8]) -> usize
     ensures { (result ≤ length buf.old) ⊎ (result ≡ failed) }
 {
     let mut done = 0;
     while done < buf.len() {
-        let got = libc::read(fd, &mut buf[done..]);
-        if got < 0 {
-            os::fail(name);
-            return FAILED;
+        match file.read(&mut buf[done..]) {
+            Ok(0) => return done,
+            Ok(n) => done += n,
+            Err(e) => {
+                fail(err, name, &e);
+                return FAILED;
+            }
         }
-        let n = io::count(got, &buf[done..]);
-        if n == 0 {
-            return done;
-        }
-        done += n;
     }
     done
 }
 
-fn load(name: &[u8], buf: &mut [u8]) -> usize
+fn load<R: Files, E: Write>(rt: &R, err: &mut E, name: &str, buf: &mut [u8]) -> usize
     ensures { (result ≤ length buf.old) ⊎ (result ≡ failed) }
 {
-    let fd = os::open_read(name);
-    if fd < 0 {
-        if os::errno() == libc::ENOENT {
-            return 0;
+    match File::open(rt, name) {
+        Ok(mut file) => load_from(&mut file, err, name, buf),
+        Err(e) => {
+            if e.kind() == ErrorKind::NotFound {
+                return 0;
+            }
+            fail(err, name, &e);
+            FAILED
         }
-        os::fail(name);
-        return FAILED;
     }
-    let len = load_from(fd, name, buf);
-    libc::close(fd);
-    len
 }
 
 // Reads a file into its part of the room, and answers its length; a room that is too short is none.
-fn load_part(name: &[u8], room: &mut [u8], i: usize) -> usize
+fn load_part<R: Files, E: Write>(
+    rt: &R,
+    err: &mut E,
+    name: &str,
+    room: &mut [u8],
+    i: usize,
+) -> usize
     ensures { result ≤ failed }
 {
     if FILES <= i {
@@ -66,22 +101,22 @@ fn load_part(name: &[u8], room: &mut [u8], i: usize) -> usize
     if room.len() < next {
         return FAILED;
     }
-    load(name, &mut room[from..next])
+    load(rt, err, name, &mut room[from..next])
 }
 
-// The length of each file, in the order of their numbers, each read into its part of the room.
-pub fn load_files(room: &mut [u8]) -> [usize; FILES]
+// The length of each file, in the order of their numbers, each read into its part of the room. What can't be read is told on `err`.
+pub fn load_files<R: Files, E: Write>(rt: &R, err: &mut E, room: &mut [u8]) -> [usize; FILES]
     ensures { Lengths result }
 {
     [
-        load_part(b"CATALOGO", room, 0),
-        load_part(b"OB_PUN", room, 1),
-        load_part(b"OB_TEX", room, 2),
-        load_part(b"OB_LIN", room, 3),
-        load_part(b"TRAMO", room, 4),
-        load_part(b"VERTICE", room, 5),
-        load_part(b"NODO", room, 6),
-        load_part(b"OB_COMP", room, 7),
+        load_part(rt, err, "CATALOGO", room, 0),
+        load_part(rt, err, "OB_PUN", room, 1),
+        load_part(rt, err, "OB_TEX", room, 2),
+        load_part(rt, err, "OB_LIN", room, 3),
+        load_part(rt, err, "TRAMO", room, 4),
+        load_part(rt, err, "VERTICE", room, 5),
+        load_part(rt, err, "NODO", room, 6),
+        load_part(rt, err, "OB_COMP", room, 7),
     ]
 }
 

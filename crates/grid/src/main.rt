@@ -4,16 +4,17 @@
 
 use folder::{ALL, any_failed, files_in, load_files};
 use grids::rows::program_rows;
-use libc::STDOUT_FILENO;
 use record::cut::part;
+use std::io;
+use std::io::Write;
 
-fn main() {
+fn main(rt: HostRuntime) -> io::Result<()> {
     let mut room = [0u8; ALL];
-    let lens = load_files(&mut room);
+    let lens = load_files(&rt, &mut rt.stderr(), &mut room);
     if any_failed(lens) {
-        return;
+        return Ok(());
     }
     let rows = program_rows(files_in(&room, lens));
     let bytes = rows.bytes;
-    io::write_all(STDOUT_FILENO, part(&bytes, 0, rows.len));
+    rt.stdout().write_all(part(&bytes, 0, rows.len))
 }

@@ -2,86 +2,96 @@
 // whether the bytes are the same. A name's first byte is the file's number.
 #![tactic(auto)]
 
-ghost use Rattle.std.specs.Prelude.{◌<◌};
+ghost use Rattle.std.specs.Prelude.{◌<◌, ◌≤◌, length, IfOk};
 
 use codec::read::read;
 use codec::values::{Answer, Reading, Value, Values};
 use codec::write::write;
-use libc::STDOUT_FILENO;
 use record::kind::{Form, Kind, Which, kind_of};
 use record::reason::Reason;
+use std::env::{Env, FillError};
+use std::fs::File;
+use std::io::{ErrorKind, Read, Write};
+use std::rt::Files;
+use std::{io, str};
 
-fn say(t: &[u8]) {
-    io::write_all(STDOUT_FILENO, t);
+fn say<W: Write>(out: &mut W, t: &[u8]) -> io::Result<()> {
+    out.write_all(t)
 }
 
 // A number in two digits, and in five.
-fn say_two(n: usize) {
+fn say_two<W: Write>(out: &mut W, n: usize) -> io::Result<()> {
     let mut t = [0u8; 2];
     field::number::put_number(&mut t, n as u64);
-    say(&t);
+    say(out, &t)?;
+    Ok(())
 }
 
-fn say_five(n: usize) {
+fn say_five<W: Write>(out: &mut W, n: usize) -> io::Result<()> {
     let mut t = [0u8; 5];
     field::number::put_number(&mut t, n as u64);
-    say(&t);
+    say(out, &t)?;
+    Ok(())
 }
 
-fn say_text(v: Value) {
+fn say_text<W: Write>(out: &mut W, v: Value) -> io::Result<()> {
     let text = v.text;
-    say(b" \"");
-    say(record::cut::part(&text, 0, v.len));
-    say(b"\"");
+    say(out, b" \"")?;
+    say(out, record::cut::part(&text, 0, v.len))?;
+    say(out, b"\"")?;
+    Ok(())
 }
 
-fn say_number(n: u64) {
-    io::print_decimal(STDOUT_FILENO, n);
+fn say_number<W: Write>(out: &mut W, n: u64) -> io::Result<()> {
+    write!(out, "{n}")
 }
 
-fn say_coordinate(z: i64) {
-    say(b" ");
+fn say_coordinate<W: Write>(out: &mut W, z: i64) -> io::Result<()> {
+    say(out, b" ")?;
     let sign = [field::number::sign_byte(z)];
-    say(&sign);
-    say_number(field::number::magnitude(z));
+    say(out, &sign)?;
+    say_number(out, field::number::magnitude(z))?;
+    Ok(())
 }
 
 // One field's value, where the field says one.
-fn say_value(form: Form, v: Value) {
+fn say_value<W: Write>(out: &mut W, form: Form, v: Value) -> io::Result<()> {
     match form {
         Form::Sign => {}
         Form::Number => {
             if v.given {
-                say(b" ");
-                say_number(v.number);
+                say(out, b" ")?;
+                say_number(out, v.number)?;
             } else {
-                say(b" .");
+                say(out, b" .")?;
             }
         }
         Form::Size => {
             if v.given {
-                say_coordinate(v.coordinate);
+                say_coordinate(out, v.coordinate)?;
             } else {
-                say(b" .");
+                say(out, b" .")?;
             }
         }
         _ => {
             if v.len == 0 {
-                say(b" .");
+                say(out, b" .")?;
             } else {
-                say_text(v);
+                say_text(out, v)?;
             }
         }
     }
+    Ok(())
 }
 
-fn say_values(k: Kind, v: Values) {
+fn say_values<W: Write>(out: &mut W, k: Kind, v: Values) -> io::Result<()> {
     let n = k.fields();
     let mut f = 0;
     while f < n {
         f += 1;
-        say_value(k.form(f), v.get(f));
+        say_value(out, k.form(f), v.get(f))?;
     }
+    Ok(())
 }
 
 fn same(a: &[u8], b: &[u8]) -> bool {
@@ -96,53 +106,63 @@ fn same(a: &[u8], b: &[u8]) -> bool {
 }
 
 // Whether the values, written, are the bytes of the record.
-fn say_same(file: usize, v: Values, rec: &[u8]) {
+fn say_same<W: Write>(out: &mut W, file: usize, v: Values, rec: &[u8]) -> io::Result<()> {
     let mut room = [0u8; 149];
     let answer = write(file, v, &mut room);
     match answer {
         Answer::Done => {
             if same(record::cut::part(&room, 0, rec.len()), rec) {
-                say(b" =\n");
+                say(out, b" =\n")?;
             } else {
-                say(b" #\n");
+                say(out, b" #\n")?;
             }
         }
-        Answer::Refused(_, _) => say(b" !\n"),
+        Answer::Refused(_, _) => say(out, b" !\n")?,
     }
+    Ok(())
 }
 
-fn say_refusal(reason: Reason, field: usize) {
-    say(b" NO ");
-    say_two(reason.number() as usize);
-    say(b" ");
-    say_two(field);
-    say(b"\n");
+fn say_refusal<W: Write>(out: &mut W, reason: Reason, field: usize) -> io::Result<()> {
+    say(out, b" NO ")?;
+    say_two(out, reason.number() as usize)?;
+    say(out, b" ")?;
+    say_two(out, field)?;
+    say(out, b"\n")?;
+    Ok(())
 }
 
-fn say_reading(file: usize, bytes: &[u8], n: usize, r: Reading)
+fn say_reading<W: Write>(
+    out: &mut W,
+    file: usize,
+    bytes: &[u8],
+    n: usize,
+    r: Reading,
+) -> io::Result<()>
     requires { 0 < n }
 {
     let answer = r.answer;
     match answer {
-        Answer::Refused(reason, field) => say_refusal(reason, field),
+        Answer::Refused(reason, field) => say_refusal(out, reason, field)?,
         Answer::Done => {
             let values = r.values;
             match kind_of(file) {
-                Which::NoFile => say(b" ?\n"),
+                Which::NoFile => say(out, b" ?\n")?,
                 Which::File(k) => {
-                    say_values(k, values);
-                    say_same(file, values, file::bytes_of(bytes, k, n - 1));
+                    say_values(out, k, values)?;
+                    say_same(out, file, values, file::bytes_of(bytes, k, n - 1))?;
                 }
             }
         }
     }
+    Ok(())
 }
 
-fn say_record(file: usize, bytes: &[u8], n: usize)
+fn say_record<W: Write>(out: &mut W, file: usize, bytes: &[u8], n: usize) -> io::Result<()>
     requires { 0 < n }
 {
-    say_five(n);
-    say_reading(file, bytes, n, read(file, bytes, n));
+    say_five(out, n)?;
+    say_reading(out, file, bytes, n, read(file, bytes, n))?;
+    Ok(())
 }
 
 // One more, of a number that a file of 8,192 bytes can have of records.
@@ -158,42 +178,87 @@ fn records_of(file: usize, bytes: &[u8]) -> usize {
     }
 }
 
-fn say_file(file: usize, bytes: &[u8]) {
+fn say_file<W: Write>(out: &mut W, file: usize, bytes: &[u8]) -> io::Result<()> {
     let n = records_of(file, bytes);
     let mut i = 0;
     while i < n {
         i += 1;
-        say_record(file, bytes, i);
+        say_record(out, file, bytes, i)?;
     }
+    Ok(())
+}
+
+// Reads to the end of the file, or until the room is full, and answers how many bytes it read.
+fn read_full<F: Read>(file: &mut F, room: &mut [u8]) -> io::Result<usize>
+    ensures { IfOk result (λ n. n ≤ length room.new) }
+{
+    let mut done = 0;
+    while done < room.len() {
+        let n = file.read(&mut room[done..])?;
+        if n == 0 {
+            return Ok(done);
+        }
+        done += n;
+    }
+    Ok(done)
+}
+
+// Prints the records of an open file of the number.
+fn say_open<F: Read, W: Write>(out: &mut W, from: &mut F, file: usize) -> io::Result<()> {
+    let mut buffer = [0u8; 8192];
+    let got = read_full(from, &mut buffer)?;
+    say_file(out, file, &buffer[..got])
 }
 
 // Reads the file with the name whole and prints its records.
-fn say_named(name: &[u8]) {
-    say(name);
-    say(b"\n");
-    let fd = os::open_read(name);
-    if fd < 0 {
-        os::fail(name);
-        return;
+fn say_named<R: Files, W: Write, E: Write>(
+    rt: &R,
+    out: &mut W,
+    err: &mut E,
+    name: &str,
+) -> io::Result<()> {
+    say(out, name.as_bytes())?;
+    say(out, b"\n")?;
+    let number = field::class::byte(name.as_bytes(), 0) % 16;
+    match File::open(rt, name) {
+        Ok(mut file) => say_open(out, &mut file, number as usize),
+        Err(e) => {
+            folder::fail(err, name, &e);
+            Ok(())
+        }
     }
-    let mut buffer = [0u8; 8192];
-    let got = io::read_full(fd, &mut buffer);
-    libc::close(fd);
-    let file = field::class::byte(name, 0);
-    say_file((file % 16) as usize, &buffer[..got]);
 }
 
-fn say_argument(i: usize) {
-    let mut name = [0u8; 64];
-    let n = os::arg(i, &mut name);
-    say_named(&name[..n]);
+// An argument's bytes as a name, which is text.
+fn say_argument<R: Files, W: Write, E: Write>(
+    rt: &R,
+    out: &mut W,
+    err: &mut E,
+    name: &[u8],
+) -> io::Result<()> {
+    match str::from_utf8(name) {
+        Ok(name) => say_named(rt, out, err, name),
+        Err(_) => Err(io::Error::from(ErrorKind::InvalidData)),
+    }
 }
 
-fn main() {
-    let n = os::arg_count();
-    let mut i = 1;
-    while i < n {
-        say_argument(i);
-        i += 1;
+// Of an argument of more than 64 bytes, no byte is a name.
+fn say_arguments<R: Files + Env, W: Write, E: Write>(
+    rt: &R,
+    out: &mut W,
+    err: &mut E,
+) -> io::Result<()> {
+    for i in 1..usize::MAX {
+        let mut name = [0u8; 64];
+        match rt.arg(i, &mut name) {
+            Ok(n) => say_argument(rt, out, err, record::cut::part(&name, 0, n))?,
+            Err(FillError::TooLong) => say_argument(rt, out, err, b"")?,
+            Err(FillError::NotPresent) => return Ok(()),
+        }
     }
+    Ok(())
+}
+
+fn main(rt: HostRuntime) -> io::Result<()> {
+    say_arguments(&rt, &mut rt.stdout(), &mut rt.stderr())
 }

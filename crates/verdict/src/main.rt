@@ -4,16 +4,17 @@
 
 use folder::{ALL, any_failed, files_in, load_files};
 use judge::line::program_line;
-use libc::STDOUT_FILENO;
 use record::cut::part;
+use std::io;
+use std::io::Write;
 
-fn main() {
+fn main(rt: HostRuntime) -> io::Result<()> {
     let mut room = [0u8; ALL];
-    let lens = load_files(&mut room);
+    let lens = load_files(&rt, &mut rt.stderr(), &mut room);
     if any_failed(lens) {
-        return;
+        return Ok(());
     }
     let line = program_line(files_in(&room, lens));
     let bytes = line.bytes;
-    io::write_all(STDOUT_FILENO, part(&bytes, 0, line.len));
+    rt.stdout().write_all(part(&bytes, 0, line.len))
 }

@@ -7,25 +7,28 @@ use codec::values::{
     Answer, Value, Values, coordinate_value, missing_value, number_value, text_value,
 };
 use codec::write::write;
-use libc::STDOUT_FILENO;
 use record::cut::part;
 use record::reason::Reason;
+use std::io;
+use std::io::Write;
 
-fn say(t: &[u8]) {
-    io::write_all(STDOUT_FILENO, t);
+fn say<W: Write>(out: &mut W, t: &[u8]) -> io::Result<()> {
+    out.write_all(t)
 }
 
-fn say_two(n: usize) {
+fn say_two<W: Write>(out: &mut W, n: usize) -> io::Result<()> {
     let mut t = [0u8; 2];
     field::number::put_number(&mut t, n as u64);
-    say(&t);
+    say(out, &t)?;
+    Ok(())
 }
 
-fn say_refusal(reason: Reason, field: usize) {
-    say(b" NO ");
-    say_two(reason.number() as usize);
-    say(b" ");
-    say_two(field);
+fn say_refusal<W: Write>(out: &mut W, reason: Reason, field: usize) -> io::Result<()> {
+    say(out, b" NO ")?;
+    say_two(out, reason.number() as usize)?;
+    say(out, b" ")?;
+    say_two(out, field)?;
+    Ok(())
 }
 
 // Whether every byte is the one with which a room is filled.
@@ -40,24 +43,26 @@ fn untouched(t: &[u8]) -> bool {
     true
 }
 
-fn say_kept(t: &[u8]) {
+fn say_kept<W: Write>(out: &mut W, t: &[u8]) -> io::Result<()> {
     if untouched(t) {
-        say(b" kept\n");
+        say(out, b" kept\n")?;
     } else {
-        say(b" touched\n");
+        say(out, b" touched\n")?;
     }
+    Ok(())
 }
 
 // A record's bytes; its end is shown in letters.
-fn say_record(room: &[u8], text: usize) {
-    say(b" ");
-    say(part(room, 0, text));
+fn say_record<W: Write>(out: &mut W, room: &[u8], text: usize) -> io::Result<()> {
+    say(out, b" ")?;
+    say(out, part(room, 0, text))?;
     if field::class::byte(part(room, text, 1), 0) == 13 {
-        say(b"\\r");
+        say(out, b"\\r")?;
     }
     if field::class::byte(part(room, text, 2), 1) == 10 {
-        say(b"\\n");
+        say(out, b"\\n")?;
     }
+    Ok(())
 }
 
 // Document 01's record bytes without the two at the end.
@@ -89,42 +94,46 @@ fn write_first(file: usize, v: Values, room: &mut [u8], lent: usize) -> Answer {
 }
 
 // Writes into a room of 160 bytes, of which the first are lent, and prints the answer.
-fn tell(file: usize, v: Values, lent: usize, shown: bool) {
+fn tell<W: Write>(out: &mut W, file: usize, v: Values, lent: usize, shown: bool) -> io::Result<()> {
     let text = text_bytes(file);
     let mut room = [170u8; 160];
     let answer = write_first(file, v, &mut room, lent);
     match answer {
         Answer::Refused(reason, field) => {
-            say_refusal(reason, field);
-            say_kept(&room);
+            say_refusal(out, reason, field)?;
+            say_kept(out, &room)?;
         }
         Answer::Done => {
-            say(b" OK");
+            say(out, b" OK")?;
             if shown {
-                say_record(&room, text);
+                say_record(out, &room, text)?;
             }
-            say(b" rest");
-            say_kept(past(&room, text));
+            say(out, b" rest")?;
+            say_kept(out, past(&room, text))?;
         }
     }
+    Ok(())
 }
 
 // A case of one file's values in a room with bytes to spare.
-fn case(label: &[u8], file: usize, v: Values) {
-    say(label);
-    tell(file, v, 160, false);
+fn case<W: Write>(out: &mut W, label: &[u8], file: usize, v: Values) -> io::Result<()> {
+    say(out, label)?;
+    tell(out, file, v, 160, false)?;
+    Ok(())
 }
 
 // The same, and the record is shown.
-fn show(label: &[u8], file: usize, v: Values) {
-    say(label);
-    tell(file, v, 160, true);
+fn show<W: Write>(out: &mut W, label: &[u8], file: usize, v: Values) -> io::Result<()> {
+    say(out, label)?;
+    tell(out, file, v, 160, true)?;
+    Ok(())
 }
 
 // A node in a room of so many bytes.
-fn room(label: &[u8], v: Values, lent: usize) {
-    say(label);
-    tell(7, v, lent, false);
+fn room<W: Write>(out: &mut W, label: &[u8], v: Values, lent: usize) -> io::Result<()> {
+    say(out, label)?;
+    tell(out, 7, v, lent, false)?;
+    Ok(())
 }
 
 fn none() -> Values {
@@ -164,36 +173,38 @@ fn node(x: i64, y: i64) -> Values {
     coordinate(coordinate(number(none(), 1, 1), 4, x), 6, y)
 }
 
-fn nodes() {
+fn nodes<W: Write>(out: &mut W) -> io::Result<()> {
     let v = node(100, 200);
-    show(b"node X 999999999", 7, node(999999999, 200));
-    case(b"node X 1000000000", 7, node(1000000000, 200));
-    case(b"node X least", 7, node(-9223372036854775808, 200));
-    show(b"node Y -9999999999", 7, node(100, -9999999999));
-    case(b"node Y -10000000000", 7, node(100, -10000000000));
-    show(b"node at zero", 7, coordinate(node(0, 0), 8, 0));
-    case(b"node id missing", 7, no(v, 1));
-    show(b"node id 0", 7, number(v, 1, 0));
-    case(b"node X missing", 7, no(v, 4));
-    case(b"node nothing given", 7, none());
-    case(b"node TIPO A0", 7, text(v, 2, b"\xA0"));
-    case(b"node TIPO A1", 7, text(v, 2, b"\xA1"));
-    show(b"node TIPO H", 7, text(v, 2, b"H"));
-    case(b"node TIPO h", 7, text(v, 2, b"h"));
-    case(b"node TIPO P", 7, text(v, 2, b"P"));
+    show(out, b"node X 999999999", 7, node(999999999, 200))?;
+    case(out, b"node X 1000000000", 7, node(1000000000, 200))?;
+    case(out, b"node X least", 7, node(-9223372036854775808, 200))?;
+    show(out, b"node Y -9999999999", 7, node(100, -9999999999))?;
+    case(out, b"node Y -10000000000", 7, node(100, -10000000000))?;
+    show(out, b"node at zero", 7, coordinate(node(0, 0), 8, 0))?;
+    case(out, b"node id missing", 7, no(v, 1))?;
+    show(out, b"node id 0", 7, number(v, 1, 0))?;
+    case(out, b"node X missing", 7, no(v, 4))?;
+    case(out, b"node nothing given", 7, none())?;
+    case(out, b"node TIPO A0", 7, text(v, 2, b"\xA0"))?;
+    case(out, b"node TIPO A1", 7, text(v, 2, b"\xA1"))?;
+    show(out, b"node TIPO H", 7, text(v, 2, b"H"))?;
+    case(out, b"node TIPO h", 7, text(v, 2, b"h"))?;
+    case(out, b"node TIPO P", 7, text(v, 2, b"P"))?;
+    Ok(())
 }
 
-fn files() {
+fn files<W: Write>(out: &mut W) -> io::Result<()> {
     let v = node(100, 200);
-    case(b"file 0", 0, v);
-    case(b"file 9", 9, v);
-    show(b"file 7", 7, v);
-    say(b"file 9 room of 0");
-    tell(9, v, 0, false);
-    room(b"room of 49", v, 49);
-    room(b"room of 49 id missing", no(v, 1), 49);
-    room(b"room of 50", v, 50);
-    room(b"room of 60", v, 60);
+    case(out, b"file 0", 0, v)?;
+    case(out, b"file 9", 9, v)?;
+    show(out, b"file 7", 7, v)?;
+    say(out, b"file 9 room of 0")?;
+    tell(out, 9, v, 0, false)?;
+    room(out, b"room of 49", v, 49)?;
+    room(out, b"room of 49 id missing", no(v, 1), 49)?;
+    room(out, b"room of 50", v, 50)?;
+    room(out, b"room of 60", v, 60)?;
+    Ok(())
 }
 
 fn line(code: &[u8], name: &[u8]) -> Values {
@@ -204,70 +215,83 @@ fn named(name: &[u8]) -> Values {
     line(b"0100000", name)
 }
 
-fn names() {
+fn names<W: Write>(out: &mut W) -> io::Result<()> {
     case(
+        out,
         b"name of 61",
         4,
         named(b"abcdefghijklmnopqrstuvwxyz0123456789ABCDEFGHIJKLMNOPQRSTUVWXY"),
-    );
+    )?;
     show(
+        out,
         b"name of 60",
         4,
         named(b"abcdefghijklmnopqrstuvwxyz0123456789ABCDEFGHIJKLMNOPQRSTUVWX"),
-    );
-    case(b"name blank first", 4, named(b" A"));
-    case(b"name blank last", 4, named(b"A "));
-    case(b"name of blanks", 4, named(b"  "));
-    case(b"name with 7F", 4, named(b"A\x7FB"));
-    show(b"name with a bar", 4, named(b"A|B"));
-    case(b"name with A0", 4, named(b"A\xA0B"));
-    show(b"name missing", 4, named(b""));
-    show(b"name NA", 4, named(b"NA"));
-    case(b"name A0 first", 4, named(b"\xA0A"));
-    case(b"name A0 last", 4, named(b"A\xA0"));
-    case(b"name of A0", 4, named(b"\xA0"));
-    case(b"name NA and A0", 4, named(b"NA\xA0"));
-    case(b"name A1 first and last", 4, named(b"\xA1A\xA1"));
+    )?;
+    case(out, b"name blank first", 4, named(b" A"))?;
+    case(out, b"name blank last", 4, named(b"A "))?;
+    case(out, b"name of blanks", 4, named(b"  "))?;
+    case(out, b"name with 7F", 4, named(b"A\x7FB"))?;
+    show(out, b"name with a bar", 4, named(b"A|B"))?;
+    case(out, b"name with A0", 4, named(b"A\xA0B"))?;
+    show(out, b"name missing", 4, named(b""))?;
+    show(out, b"name NA", 4, named(b"NA"))?;
+    case(out, b"name A0 first", 4, named(b"\xA0A"))?;
+    case(out, b"name A0 last", 4, named(b"A\xA0"))?;
+    case(out, b"name of A0", 4, named(b"\xA0"))?;
+    case(out, b"name NA and A0", 4, named(b"NA\xA0"))?;
+    case(out, b"name A1 first and last", 4, named(b"\xA1A\xA1"))?;
+    Ok(())
 }
 
-fn codes() {
-    case(b"code missing", 4, line(b"", b"a"));
-    case(b"code NA", 4, line(b"NA", b"a"));
-    case(b"code ND", 4, line(b"ND", b"a"));
-    show(b"code na", 4, line(b"na", b"a"));
-    case(b"code NA and A0", 4, line(b"NA\xA0", b"a"));
-    case(b"code with A0", 4, line(b"NA\xA0A", b"a"));
+fn codes<W: Write>(out: &mut W) -> io::Result<()> {
+    case(out, b"code missing", 4, line(b"", b"a"))?;
+    case(out, b"code NA", 4, line(b"NA", b"a"))?;
+    case(out, b"code ND", 4, line(b"ND", b"a"))?;
+    show(out, b"code na", 4, line(b"na", b"a"))?;
+    case(out, b"code NA and A0", 4, line(b"NA\xA0", b"a"))?;
+    case(out, b"code with A0", 4, line(b"NA\xA0A", b"a"))?;
+    Ok(())
 }
 
-fn centroids() {
+fn centroids<W: Write>(out: &mut W) -> io::Result<()> {
     let v = named(b"a");
-    case(b"centroid only Y", 4, coordinate(v, 8, 200));
-    case(b"centroid wide Y no X", 4, coordinate(v, 8, 10000000000));
-    case(b"centroid only Z", 4, coordinate(v, 10, 5));
+    case(out, b"centroid only Y", 4, coordinate(v, 8, 200))?;
     case(
+        out,
+        b"centroid wide Y no X",
+        4,
+        coordinate(v, 8, 10000000000),
+    )?;
+    case(out, b"centroid only Z", 4, coordinate(v, 10, 5))?;
+    case(
+        out,
         b"centroid X and Z",
         4,
         coordinate(coordinate(v, 6, 100), 10, 5),
-    );
+    )?;
     show(
+        out,
         b"centroid X and Y",
         4,
         coordinate(coordinate(v, 6, 100), 8, 200),
-    );
+    )?;
+    Ok(())
 }
 
 fn catalogued(tipo: &[u8]) -> Values {
     text(text(none(), 1, b"0100001"), 2, tipo)
 }
 
-fn catalogue() {
-    case(b"catalogue TIPO Q", 1, catalogued(b"Q"));
-    case(b"catalogue TIPO missing", 1, catalogued(b""));
-    show(b"catalogue TIPO T", 1, catalogued(b"T"));
-    case(b"catalogue TIPO A0", 1, catalogued(b"\xA0"));
-    case(b"catalogue TIPO A1", 1, catalogued(b"\xA1"));
-    show(b"catalogue TIPO C", 1, catalogued(b"C"));
-    case(b"catalogue TIPO S", 1, catalogued(b"S"));
+fn catalogue<W: Write>(out: &mut W) -> io::Result<()> {
+    case(out, b"catalogue TIPO Q", 1, catalogued(b"Q"))?;
+    case(out, b"catalogue TIPO missing", 1, catalogued(b""))?;
+    show(out, b"catalogue TIPO T", 1, catalogued(b"T"))?;
+    case(out, b"catalogue TIPO A0", 1, catalogued(b"\xA0"))?;
+    case(out, b"catalogue TIPO A1", 1, catalogued(b"\xA1"))?;
+    show(out, b"catalogue TIPO C", 1, catalogued(b"C"))?;
+    case(out, b"catalogue TIPO S", 1, catalogued(b"S"))?;
+    Ok(())
 }
 
 fn tramo(sense: &[u8]) -> Values {
@@ -276,202 +300,249 @@ fn tramo(sense: &[u8]) -> Values {
     text(text(v, 5, b"0100001"), 8, sense)
 }
 
-fn tramos() {
-    case(b"tramo sense x", 5, tramo(b"x"));
-    show(b"tramo sense blank", 5, tramo(b""));
-    show(b"tramo sense -", 5, tramo(b"-"));
-    case(b"tramo sense A0", 5, tramo(b"\xA0"));
-    case(b"tramo sense A1", 5, tramo(b"\xA1"));
+fn tramos<W: Write>(out: &mut W) -> io::Result<()> {
+    case(out, b"tramo sense x", 5, tramo(b"x"))?;
+    show(out, b"tramo sense blank", 5, tramo(b""))?;
+    show(out, b"tramo sense -", 5, tramo(b"-"))?;
+    case(out, b"tramo sense A0", 5, tramo(b"\xA0"))?;
+    case(out, b"tramo sense A1", 5, tramo(b"\xA1"))?;
+    Ok(())
 }
 
-fn vertices() {
+fn vertices<W: Write>(out: &mut W) -> io::Result<()> {
     let v = node(100, 200);
-    case(b"vertex order 100000", 6, number(v, 2, 100000));
-    show(b"vertex order 99999", 6, number(v, 2, 99999));
+    case(out, b"vertex order 100000", 6, number(v, 2, 100000))?;
+    show(out, b"vertex order 99999", 6, number(v, 2, 99999))?;
+    Ok(())
 }
 
-fn texts() {
+fn texts<W: Write>(out: &mut W) -> io::Result<()> {
     let v = text(text(number(none(), 1, 1), 3, b"0100002"), 4, b"a");
     let v = coordinate(coordinate(number(v, 8, 3), 10, 100), 12, 200);
-    case(b"text height missing", 3, v);
+    case(out, b"text height missing", 3, v)?;
     let v = number(v, 5, 12);
-    show(b"text", 3, v);
-    case(b"text justification 0", 3, number(v, 8, 0));
-    show(b"text justification 9", 3, number(v, 8, 9));
-    case(b"text justification 10", 3, number(v, 8, 10));
-    case(b"text orientation 36000", 3, number(v, 7, 36000));
-    show(b"text orientation 35959", 3, number(v, 7, 35959));
+    show(out, b"text", 3, v)?;
+    case(out, b"text justification 0", 3, number(v, 8, 0))?;
+    show(out, b"text justification 9", 3, number(v, 8, 9))?;
+    case(out, b"text justification 10", 3, number(v, 8, 10))?;
+    case(out, b"text orientation 36000", 3, number(v, 7, 36000))?;
+    show(out, b"text orientation 35959", 3, number(v, 7, 35959))?;
+    Ok(())
 }
 
-fn points() {
+fn points<W: Write>(out: &mut W) -> io::Result<()> {
     let v = text(text(number(none(), 1, 1), 4, b"0100003"), 5, b"a");
     let v = coordinate(coordinate(number(v, 3, 2), 9, 100), 11, 200);
-    show(b"point", 2, v);
-    show(b"point orientation 0", 2, number(v, 6, 0));
-    show(b"point orientation 59", 2, number(v, 6, 59));
-    case(b"point orientation 60", 2, number(v, 6, 60));
-    case(b"point orientation 35960", 2, number(v, 6, 35960));
-    case(b"point orientation 100000", 2, number(v, 6, 100000));
+    show(out, b"point", 2, v)?;
+    show(out, b"point orientation 0", 2, number(v, 6, 0))?;
+    show(out, b"point orientation 59", 2, number(v, 6, 59))?;
+    case(out, b"point orientation 60", 2, number(v, 6, 60))?;
+    case(out, b"point orientation 35960", 2, number(v, 6, 35960))?;
+    case(out, b"point orientation 100000", 2, number(v, 6, 100000))?;
+    Ok(())
 }
 
 fn composite(code: &[u8], name: &[u8]) -> Values {
     text(text(number(none(), 1, 1), 2, code), 3, name)
 }
 
-fn composites() {
+fn composites<W: Write>(out: &mut W) -> io::Result<()> {
     let v = composite(b"0500000", b"a");
     let x = coordinate(v, 5, 100);
-    show(b"composite", 8, v);
-    case(b"composite id missing", 8, no(v, 1));
-    case(b"composite id 10000000000", 8, number(v, 1, 10000000000));
-    case(b"composite code missing", 8, composite(b"", b"a"));
-    case(b"composite code NA", 8, composite(b"NA", b"a"));
-    case(b"composite code of 8", 8, composite(b"05000000", b"a"));
-    show(b"composite name missing", 8, composite(b"0500000", b""));
+    show(out, b"composite", 8, v)?;
+    case(out, b"composite id missing", 8, no(v, 1))?;
     case(
+        out,
+        b"composite id 10000000000",
+        8,
+        number(v, 1, 10000000000),
+    )?;
+    case(out, b"composite code missing", 8, composite(b"", b"a"))?;
+    case(out, b"composite code NA", 8, composite(b"NA", b"a"))?;
+    case(out, b"composite code of 8", 8, composite(b"05000000", b"a"))?;
+    show(
+        out,
+        b"composite name missing",
+        8,
+        composite(b"0500000", b""),
+    )?;
+    case(
+        out,
         b"composite name blank first",
         8,
         composite(b"0500000", b" a"),
-    );
+    )?;
     case(
+        out,
         b"composite name A0 last",
         8,
         composite(b"0500000", b"a\xA0"),
-    );
-    case(b"composite only X", 8, x);
-    case(b"composite only Y", 8, coordinate(v, 7, 200));
-    case(b"composite only Z", 8, coordinate(v, 9, 5));
-    case(b"composite X and Z", 8, coordinate(x, 9, 5));
-    show(b"composite X and Y", 8, coordinate(x, 7, -200));
+    )?;
+    case(out, b"composite only X", 8, x)?;
+    case(out, b"composite only Y", 8, coordinate(v, 7, 200))?;
+    case(out, b"composite only Z", 8, coordinate(v, 9, 5))?;
+    case(out, b"composite X and Z", 8, coordinate(x, 9, 5))?;
+    show(out, b"composite X and Y", 8, coordinate(x, 7, -200))?;
     show(
+        out,
         b"composite X, Y and Z",
         8,
         coordinate(coordinate(x, 7, 200), 9, 0),
-    );
-    case(b"composite wide Y no X", 8, coordinate(v, 7, 10000000000));
-    case(b"composite wide Y", 8, coordinate(x, 7, 10000000000));
-    say(b"composite room of 116");
-    tell(8, v, 116, false);
-    say(b"composite room of 117");
-    tell(8, v, 117, false);
+    )?;
+    case(
+        out,
+        b"composite wide Y no X",
+        8,
+        coordinate(v, 7, 10000000000),
+    )?;
+    case(out, b"composite wide Y", 8, coordinate(x, 7, 10000000000))?;
+    say(out, b"composite room of 116")?;
+    tell(out, 8, v, 116, false)?;
+    say(out, b"composite room of 117")?;
+    tell(out, 8, v, 117, false)?;
+    Ok(())
 }
 
-fn say_reading(label: &[u8], file: usize, bytes: &[u8], n: usize) {
-    say(label);
+fn say_reading<W: Write>(
+    out: &mut W,
+    label: &[u8],
+    file: usize,
+    bytes: &[u8],
+    n: usize,
+) -> io::Result<()> {
+    say(out, label)?;
     let reading = read(file, bytes, n);
     let answer = reading.answer;
     match answer {
-        Answer::Refused(reason, field) => say_refusal(reason, field),
-        Answer::Done => say(b" OK"),
+        Answer::Refused(reason, field) => say_refusal(out, reason, field)?,
+        Answer::Done => say(out, b" OK")?,
     }
-    say(b"\n");
+    say(out, b"\n")?;
+    Ok(())
 }
 
 // A node's file of one record, read.
-fn say_node_reading(label: &[u8], n: usize) {
+fn say_node_reading<W: Write>(out: &mut W, label: &[u8], n: usize) -> io::Result<()> {
     say_reading(
+        out,
         label,
         7,
         b"0000000001| |+|000000100|+|0000000200| |        \r\n",
         n,
-    );
+    )?;
+    Ok(())
 }
 
-fn composites_read() {
+fn composites_read<W: Write>(out: &mut W) -> io::Result<()> {
     say_reading(
+        out,
         b"read file 9",
         9,
         b"0000000001|0500000|a                                                           | |         | |          | |        \r\n",
         1,
-    );
+    )?;
     say_reading(
+        out,
         b"read composite 0",
         8,
         b"0000000001|0500000|a                                                           | |         | |          | |        \r\n",
         0,
-    );
+    )?;
     say_reading(
+        out,
         b"read composite 2",
         8,
         b"0000000001|0500000|a                                                           | |         | |          | |        \r\n",
         2,
-    );
+    )?;
     say_reading(
+        out,
         b"read composite of 116",
         8,
         b"0000000001|0500000|a                                                           | |         | |          | |        \r",
         1,
-    );
+    )?;
     say_reading(
+        out,
         b"read composite",
         8,
         b"0000000001|0500000|a                                                           | |         | |          | |        \r\n",
         1,
-    );
+    )?;
     say_reading(
+        out,
         b"read composite end",
         8,
         b"0000000001|0500000|a                                                           | |         | |          | |        \n\r",
         1,
-    );
+    )?;
     say_reading(
+        out,
         b"read composite bar",
         8,
         b"0000000001|0500000|a                                                           | ,         | |          | |        \r\n",
         1,
-    );
+    )?;
     say_reading(
+        out,
         b"read composite id",
         8,
         b"         1|0500000|a                                                           | |         | |          | |        \r\n",
         1,
-    );
+    )?;
     say_reading(
+        out,
         b"read composite name",
         8,
         b"0000000001|0500000| a                                                          | |         | |          | |        \r\n",
         1,
-    );
+    )?;
     say_reading(
+        out,
         b"read composite code ND",
         8,
         b"0000000001|ND     |a                                                           | |         | |          | |        \r\n",
         1,
-    );
+    )?;
     say_reading(
+        out,
         b"read composite only Z",
         8,
         b"0000000001|0500000|a                                                           | |         | |          |+|00000005\r\n",
         1,
-    );
+    )?;
     say_reading(
+        out,
         b"read composite minus zero",
         8,
         b"0000000001|0500000|a                                                           |+|000000001|-|0000000000| |        \r\n",
         1,
-    );
+    )?;
     say_reading(
+        out,
         b"read composite X and Y",
         8,
         b"0000000001|0500000|a                                                           |+|000000001|-|0000000002| |        \r\n",
         1,
-    );
+    )?;
+    Ok(())
 }
 
-fn main() {
-    nodes();
-    files();
-    names();
-    codes();
-    centroids();
-    catalogue();
-    tramos();
-    vertices();
-    texts();
-    points();
-    composites();
-    say_node_reading(b"read record 0", 0);
-    say_node_reading(b"read record 2", 2);
-    say_node_reading(b"read record 1", 1);
-    composites_read();
+fn main(rt: HostRuntime) -> io::Result<()> {
+    let out = &mut rt.stdout();
+    nodes(out)?;
+    files(out)?;
+    names(out)?;
+    codes(out)?;
+    centroids(out)?;
+    catalogue(out)?;
+    tramos(out)?;
+    vertices(out)?;
+    texts(out)?;
+    points(out)?;
+    composites(out)?;
+    say_node_reading(out, b"read record 0", 0)?;
+    say_node_reading(out, b"read record 2", 2)?;
+    say_node_reading(out, b"read record 1", 1)?;
+    composites_read(out)
 }
