@@ -59,40 +59,35 @@ pub(crate) fn finding_word(v: Finding) -> u64
 }
 
 // The reason's number in an answer; 0 where nothing is wrong.
-#[unsafe(no_mangle)]
-pub extern "C" fn canopyrail_reason(answer: u64) -> u64
+pub fn canopyrail_reason(answer: u64) -> u64
     ensures { result ≡ reason_in answer }
 {
     answer / 100000000000000
 }
 
 // The file's number.
-#[unsafe(no_mangle)]
-pub extern "C" fn canopyrail_file(answer: u64) -> u64
+pub fn canopyrail_file(answer: u64) -> u64
     ensures { result ≡ file_in answer }
 {
     answer / 1000000000000 % 100
 }
 
 // The record's number.
-#[unsafe(no_mangle)]
-pub extern "C" fn canopyrail_record(answer: u64) -> u64
+pub fn canopyrail_record(answer: u64) -> u64
     ensures { result ≡ record_in answer }
 {
     answer / 10000000 % 100000
 }
 
 // The field's number.
-#[unsafe(no_mangle)]
-pub extern "C" fn canopyrail_field(answer: u64) -> u64
+pub fn canopyrail_field(answer: u64) -> u64
     ensures { result ≡ field_in answer }
 {
     answer / 100000 % 100
 }
 
 // The earlier record's number, or the letter.
-#[unsafe(no_mangle)]
-pub extern "C" fn canopyrail_other(answer: u64) -> u64
+pub fn canopyrail_other(answer: u64) -> u64
     ensures { result ≡ other_in answer }
 {
     answer % 100000

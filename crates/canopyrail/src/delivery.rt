@@ -37,8 +37,7 @@ pub(crate) fn all_files<'a, 'b>(files: &'b [&'a [u8]], spare: &'a [u8]) -> [&'a 
 
 // Judges the files of a delivery, in any state, in the order of their numbers. An absent one is empty, and so are those past the end
 // of the slice; what the slice has past the last kind is not looked at.
-#[unsafe(no_mangle)]
-pub extern "C" fn canopyrail_judge<'a, 'b>(files: &'b [&'a [u8]]) -> u64
+pub fn canopyrail_judge<'a, 'b>(files: &'b [&'a [u8]]) -> u64
     ensures { result ≡ finding_word (judged (files_of (map (λ x. x.now) files.now))) }
 {
     if files.len() == 0 {
@@ -51,8 +50,7 @@ pub extern "C" fn canopyrail_judge<'a, 'b>(files: &'b [&'a [u8]]) -> u64
 }
 
 // The number of whole records in the bytes of the file with the number; 0 of no file.
-#[unsafe(no_mangle)]
-pub extern "C" fn canopyrail_count(file: usize, bytes: &[u8]) -> usize
+pub fn canopyrail_count(file: usize, bytes: &[u8]) -> usize
     ensures { result ≡ on_file (count_of bytes.now) (which_of file) }
 {
     match kind_of(file) {

@@ -45,8 +45,7 @@ fn grid_in(cells: &[u64]) -> [[u64; GROUPS]; FILES]
 }
 
 // Counts all breaks of a delivery, files as canopyrail_judge takes them; a refusal leaves the cells as they were.
-#[unsafe(no_mangle)]
-pub extern "C" fn canopyrail_grid<'a, 'b>(files: &'b [&'a [u8]], cells: &mut [u64]) -> u64
+pub fn canopyrail_grid<'a, 'b>(files: &'b [&'a [u8]], cells: &mut [u64]) -> u64
     ensures { Counts (files_of (map (λ x. x.now) files.now)) cells.old result cells.new }
 {
     if cells.len() < CELLS {
@@ -62,8 +61,7 @@ pub extern "C" fn canopyrail_grid<'a, 'b>(files: &'b [&'a [u8]], cells: &mut [u6
 }
 
 // Adds a grid to another, cell by cell; a refusal leaves both as they were.
-#[unsafe(no_mangle)]
-pub extern "C" fn canopyrail_grid_add(into: &mut [u64], from: &[u64]) -> u64
+pub fn canopyrail_grid_add(into: &mut [u64], from: &[u64]) -> u64
     ensures { Adds into.old from.now result into.new }
 {
     if into.len() < CELLS {

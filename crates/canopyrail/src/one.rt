@@ -92,8 +92,7 @@ fn read_in(
 }
 
 // Reads record n, counted from 1, of the bytes of the file with the number; a refusal leaves the lent memory as it was.
-#[unsafe(no_mangle)]
-pub extern "C" fn canopyrail_read(
+pub fn canopyrail_read(
     file: usize,
     bytes: &[u8],
     n: usize,
@@ -135,8 +134,7 @@ fn answer_word(a: Answer) -> u64
 }
 
 // Writes one record of the file with the number at the start of the room, or refuses and leaves the room as it was.
-#[unsafe(no_mangle)]
-pub extern "C" fn canopyrail_write(
+pub fn canopyrail_write(
     file: usize,
     numbers: &[u64],
     coordinates: &[i64],

@@ -7,8 +7,7 @@ ghost use Rattle.canopyrail.specs.Lent.{lent_offset, form_number, lent_form};
 use record::kind::{Form, Kind, Which, kind_of};
 
 // The number of fields of the file's records.
-#[unsafe(no_mangle)]
-pub extern "C" fn canopyrail_fields(file: usize) -> usize
+pub fn canopyrail_fields(file: usize) -> usize
     ensures { result ≡ on_file fields_of (which_of file) }
 {
     match kind_of(file) {
@@ -18,8 +17,7 @@ pub extern "C" fn canopyrail_fields(file: usize) -> usize
 }
 
 // The bytes of a record.
-#[unsafe(no_mangle)]
-pub extern "C" fn canopyrail_length(file: usize) -> usize
+pub fn canopyrail_length(file: usize) -> usize
     ensures { result ≡ on_file length_of (which_of file) }
 {
     match kind_of(file) {
@@ -35,8 +33,7 @@ fn offset_in(k: Kind, f: usize) -> usize
     if k.width(f) == 0 { 0 } else { k.offset(f) }
 }
 
-#[unsafe(no_mangle)]
-pub extern "C" fn canopyrail_offset(file: usize, field: usize) -> usize
+pub fn canopyrail_offset(file: usize, field: usize) -> usize
     ensures { result ≡ on_file (λ k. lent_offset k field) (which_of file) }
 {
     match kind_of(file) {
@@ -46,8 +43,7 @@ pub extern "C" fn canopyrail_offset(file: usize, field: usize) -> usize
 }
 
 // The width of the field.
-#[unsafe(no_mangle)]
-pub extern "C" fn canopyrail_width(file: usize, field: usize) -> usize
+pub fn canopyrail_width(file: usize, field: usize) -> usize
     ensures { result ≡ on_file (λ k. width_at k field) (which_of file) }
 {
     match kind_of(file) {
@@ -79,8 +75,7 @@ fn form_in(k: Kind, f: usize) -> usize
 }
 
 // What the field holds: 1 a text, 2 a coordinate's sign, 3 a number, 4 a coordinate's digits.
-#[unsafe(no_mangle)]
-pub extern "C" fn canopyrail_form(file: usize, field: usize) -> usize
+pub fn canopyrail_form(file: usize, field: usize) -> usize
     ensures { result ≡ on_file (λ k. lent_form k field) (which_of file) }
 {
     match kind_of(file) {

@@ -5,8 +5,7 @@ ghost use Rattle.std.specs.Prelude.{◌≡◌};
 const VERSION: u64 = 204;
 
 // The version that is linked, so that a host can hold it against the header that it was compiled with.
-#[unsafe(no_mangle)]
-pub extern "C" fn canopyrail_version() -> u64
+pub fn canopyrail_version() -> u64
     ensures { result ≡ 204 }
 {
     VERSION
