@@ -2,7 +2,7 @@
 -- coordinate, a length and a text of the widest field's bytes. A field whose length is 0 is missing; of a number or a coordinate any
 -- other length says that it is given.
 -- Assumes nothing.
-use Rattle.std.specs.Prelude.{ℕ, ◌+◌, ◌*◌, Bool, true, false, not, ◌&&◌, List, [], ◌++◌, ◌≡◌, eqb, ltb, leb, ℤ, pos, length, get_or, take, drop}
+use Rattle.std.specs.Prelude.{ℕ, ◌+◌, ◌*◌, Bool, true, false, not, ◌&&◌, List, ◌++◌, ◌≡◌, eqb, ltb, leb, ℤ, pos, length, get_or, take, drop}
 use Rattle.laws.specs.Row.{pick, row, strung}
 use Rattle.field.specs.Texts.{padded, first_bytes}
 use Rattle.record.specs.declared.kind.Kind.{Kind}

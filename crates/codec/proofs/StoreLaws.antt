@@ -24,7 +24,7 @@ use Rattle.record.specs.declared.kind.Kind.{Kind}
 use Rattle.record.specs.declared.kind.Form.{Form}
 use Rattle.record.specs.declared.kind.Form.TheVariants.{Words, Code, Sign, Number, Size}
 use Rattle.record.specs.Table.{form_at, most_fields, widest}
-use Rattle.record.specs.Says.{Said, missing, number, text, coordinate}
+use Rattle.record.specs.Says.{Said, missing, number, coordinate}
 use Rattle.record.proofs.TableLaws.{sane}
 use Rattle.codec.specs.declared.values.Value.{Value}
 use Rattle.codec.specs.declared.values.Values.{Values}

@@ -1,7 +1,7 @@
 -- What writing refuses: one test for each of the reasons 62 to 65 (document 01, "Single-record calls add"), true where the value
 -- is refused, and the first by field and reason.
 -- Assumes nothing.
-use Rattle.std.specs.Prelude.{ℕ, ◌+◌, ◌-◌, ◌^◌, Bool, false, not, ◌&&◌, ◌||◌, List, [], ◌∷◌, ltb, eqb, nat_abs, length}
+use Rattle.std.specs.Prelude.{ℕ, ◌+◌, ◌-◌, ◌^◌, Bool, false, not, ◌&&◌, ◌||◌, List, [], ◌∷◌, ltb, nat_abs, length}
 use Rattle.laws.specs.Row.{row, each}
 use Rattle.laws.specs.Nest.{Nest, node, run}
 use Rattle.field.specs.declared.class.Class.TheVariants.{Text}

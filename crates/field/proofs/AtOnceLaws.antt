@@ -3,13 +3,13 @@
 -- Assumes nothing.
 use Prim.Native.Nat.{ℕ, ◌+◌, ◌-◌, ◌*◌, ◌^◌, ◌≤◌, ◌<◌, min}
 use mathlib.Core.List.{List}
-use mathlib.Core.Path.{◌≡◌, refl, ap, sym, ◌∙◌}
+use mathlib.Core.Path.{◌≡◌, refl, ap, ◌∙◌}
 use native.Mathlib.Omega.{arith}
 use lib.Bits.{bit_and, and_le_l, and_le_r}
 use lib.ListN.{length, get_or}
 use borrow.Author.Tests.{ne_eqb}
 use Rattle.field.specs.declared.class.Class.TheVariants.{Blank}
-use Rattle.field.specs.Digits.{digits_number, number_written}
+use Rattle.field.specs.Digits.{digits_number}
 use Rattle.field.specs.machinery.AtOnce.{Under, four_bytes, AtOnce}
 use Rattle.field.proofs.DigitLaws.{not-all}
 use Rattle.field.proofs.NumberLoops.{number_more, number-end}

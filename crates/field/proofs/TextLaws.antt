@@ -1,6 +1,6 @@
 -- The laws of a text in a field: padding, trimming, the first bytes, and a text as one number (specs/Texts.antt).
 -- Assumes nothing.
-use Prim.Native.Nat.{ℕ, zero, suc, ◌+◌, ◌-◌, ◌≤◌, ◌<◌}
+use Prim.Native.Nat.{ℕ, zero, suc, ◌-◌, ◌≤◌, ◌<◌}
 use mathlib.Core.Bool.{Bool, true, false, not, ◌&&◌, ◌||◌, and-false, or-true}
 use mathlib.Core.Bool as bool
 use mathlib.Core.List.{List, [], ◌∷◌, ◌++◌}

@@ -1,14 +1,13 @@
 -- What a finding of the fifties on a file means (record's specs/Claims.antt), and the break that it shows.
 -- Assumes nothing.
 use Prim.Native.Nat.{ℕ, ◌+◌}
-use mathlib.Core.Bool.{Bool, true, false, not}
-use mathlib.Core.Path.{◌≡◌, refl, sym, ◌∙◌}
+use mathlib.Core.Bool.{false, not}
+use mathlib.Core.Path.{◌≡◌, refl}
 use lib.Dec.{eqb}
 use lib.ListN.{get_or}
 use borrow.Author.Tests.{eqb-true, not-false}
 use Rattle.laws.specs.Find.{first_of, first_index, any}
-use Rattle.laws.specs.Row.{pick}
-use Rattle.laws.proofs.FindLaws.{true-false, any-no}
+use Rattle.laws.proofs.FindLaws.{any-no}
 use Rattle.record.specs.declared.kind.Kind.{Kind}
 use Rattle.record.specs.declared.reason.Reason.TheVariants.{LongFile10}
 use Rattle.record.specs.declared.reason.Break.{Break}

@@ -13,7 +13,7 @@ use lib.ListN.{length, get_or, replicate, length-map}
 use borrow.Author.Tests.{ltb-true, ltb-false, lt-ltb, eqb-true, eq-eqb, ne_eqb, not-false}
 use Rattle.laws.specs.Find.{any, first_index, first_of}
 use Rattle.laws.specs.Count.{bit, sum_of, total}
-use Rattle.laws.specs.Nest.{one, many}
+use Rattle.laws.specs.Nest.{many}
 use Rattle.laws.specs.Row.{pick, row}
 use Rattle.laws.proofs.FindLaws.{index-here, index-none, index-none-at, index-some-at, any_at, any-no}
 use Rattle.laws.proofs.RowLaws.{and-true, row_same, row_at, length-row}

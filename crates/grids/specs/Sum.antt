@@ -1,6 +1,6 @@
 -- Grids that are added (document 02, W-201): cell by cell, or refused with 67 where a cell's sum is over 9,999,999,999.
 -- Assumes nothing.
-use Rattle.std.specs.Prelude.{ℕ, ◌+◌, Bool, List, [], ltb, get_or}
+use Rattle.std.specs.Prelude.{ℕ, ◌+◌, Bool, [], ltb, get_or}
 use Rattle.laws.specs.Find.{any}
 use Rattle.laws.specs.Row.{pick, row}
 use Rattle.record.specs.declared.reason.Reason.TheVariants.{TooMany67}

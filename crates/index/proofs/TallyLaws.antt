@@ -9,7 +9,7 @@ use native.Mathlib.Omega.{arith}
 use lib.Dec.{leb}
 use Rattle.laws.specs.Row.{pick}
 use Rattle.laws.specs.Find.{first_index}
-use Rattle.laws.specs.Count.{bit, how_many}
+use Rattle.laws.specs.Count.{how_many}
 use Rattle.laws.proofs.FindLaws.{index-none}
 use Rattle.laws.proofs.CountLaws.{count_none, count_same, count_most}
 use Rattle.index.specs.Keys.{found_of}

@@ -6,7 +6,7 @@ use mathlib.Core.Bool.{Bool, true, false, not}
 use mathlib.Core.List.{[], ◌∷◌}
 use mathlib.Core.Option.{Option, none, some}
 use mathlib.Core.Path.{◌≡◌, refl, sym, ap, subst, ◌∙◌}
-use mathlib.Core.Logic.{◌⊎◌, ⊎_elim}
+use mathlib.Core.Logic.{⊎_elim}
 use native.Mathlib.Omega.{arith}
 use lib.Dec.{eqb}
 use lib.ListN.{get_or}
@@ -17,7 +17,6 @@ use Rattle.laws.proofs.NestLaws.{before_split}
 use Rattle.laws.proofs.FindLaws.{true-false, some-none, none-at, some_at, any-no}
 use Rattle.laws.proofs.RowLaws.{and-true, true-and}
 use Rattle.record.specs.declared.kind.Kind.{Kind}
-use Rattle.record.specs.declared.kind.Kind.TheVariants as K
 use Rattle.record.specs.declared.kind.Which.{Which}
 use Rattle.record.specs.declared.kind.Which.TheVariants.{NoFile, File}
 use Rattle.record.specs.declared.reason.Reason.TheVariants.{LongFile10}

@@ -11,7 +11,7 @@ use lib.Dec.{eqb, ltb}
 use lib.ListN.{length, get_or}
 use Rattle.laws.specs.Count.{bit, how_many}
 use Rattle.laws.specs.Find.{any}
-use Rattle.laws.proofs.FindLaws.{any-more, any_same, any-no}
+use Rattle.laws.proofs.FindLaws.{any_same, any-no}
 use Rattle.laws.proofs.RowLaws.{neither}
 use Rattle.index.specs.Keys.{listed}
 use Rattle.index.specs.Look.{key_line}

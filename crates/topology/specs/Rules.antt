@@ -1,7 +1,7 @@
 -- The rules of vertex numbering, line ends and nodes, and objects in use: one test for each of the reasons 50 to 59, true
 -- where the rule is broken at field f of record i (counted from 0) of file k (document 01, "What the reasons are").
 -- Assumes nothing.
-use Rattle.std.specs.Prelude.{ℕ, zero, suc, ◌+◌, ◌-◌, ◌%◌, max, Bool, false, not, ◌&&◌, ◌||◌, List, [], ◌∷◌, ltb, eqb}
+use Rattle.std.specs.Prelude.{ℕ, zero, suc, ◌+◌, ◌-◌, ◌%◌, max, Bool, not, ◌&&◌, ◌||◌, List, [], ◌∷◌, ltb, eqb}
 use Rattle.laws.specs.Count.{how_many}
 use Rattle.laws.specs.Find.{first_index, any, names}
 use Rattle.laws.specs.Row.{pick}

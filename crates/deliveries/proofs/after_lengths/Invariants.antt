@@ -1,7 +1,6 @@
 -- `deliveries::after_lengths` is safe, ends and answers a later place: a length takes a byte to eight.
 -- Assumes nothing.
 use Prim.Native.Nat.{◌+◌, ◌*◌, ◌-◌, ◌≤◌}
-use borrow.Author.Rules.{rules}
 use Rattle.record.specs.Table.{file_count}
 use Rattle.deliveries.proofs.after_lengths.Given as goal
 

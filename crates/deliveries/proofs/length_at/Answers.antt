@@ -1,8 +1,7 @@
 -- `deliveries::length_at` is safe, ends and meets its contract. The loop's invariant: a number of i digits, and i is at most 8.
 -- Assumes nothing.
-use Prim.Native.Nat.{◌-◌, ◌^◌, ◌<◌, ◌≤◌}
+use Prim.Native.Nat.{◌-◌}
 use native.Mathlib.Omega.{arith}
-use borrow.Author.Rules.{rules}
 use Rattle.deliveries.proofs.LengthLaws.{length-small, length_more}
 use Rattle.deliveries.proofs.length_at.Goals as goal
 

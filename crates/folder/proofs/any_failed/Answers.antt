@@ -1,14 +1,8 @@
 -- `folder::any_failed` meets its contract.
 -- Assumes nothing.
-use Prim.Native.Nat.{◌-◌, ◌≤◌}
-use mathlib.Core.Bool.{false}
-use mathlib.Core.Path.{◌≡◌, sym}
+use mathlib.Core.Path.{sym}
 use native.Mathlib.Omega.{arith}
-use lib.Dec.{eqb}
-use lib.ListN.{get_or}
 use borrow.Author.Tests.{eq-eqb, ne_eqb}
-use borrow.Author.Rules.{rules}
-use Rattle.laws.specs.Find.{any}
 use Rattle.laws.proofs.FindLaws.{any-start, any_next, any-end, any-true}
 use Rattle.record.specs.Table.{file_count}
 use Rattle.folder.specs.Folder.{failed, any_failed}

@@ -2,16 +2,12 @@
 -- Assumes nothing.
 use Prim.Native.Nat.{◌-◌, ◌≤◌}
 use mathlib.Core.Bool.{false}
-use mathlib.Core.Path.{◌≡◌, sym}
-use native.Mathlib.Omega.{arith}
+use mathlib.Core.Path.{◌≡◌}
 use lib.Dec.{eqb}
 use lib.ListN.{get_or}
-use borrow.Author.Tests.{eq-eqb, ne_eqb}
-use borrow.Author.Rules.{rules}
 use Rattle.laws.specs.Find.{any}
-use Rattle.laws.proofs.FindLaws.{any-start, any_next, any-end, any-true}
 use Rattle.record.specs.Table.{file_count}
-use Rattle.folder.specs.Folder.{failed, any_failed}
+use Rattle.folder.specs.Folder.{failed}
 use Rattle.folder.proofs.any_failed.Given as goal
 
 abbrev pub invariant-loop-i : goal.invariant-loop-i

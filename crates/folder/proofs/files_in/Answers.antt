@@ -1,6 +1,5 @@
 -- `folder::files_in` meets its contract.
 -- Assumes nothing.
-use borrow.Author.Rules.{rules}
 use Rattle.laws.specs.Row.{row}
 use Rattle.folder.specs.Folder.{files_read}
 use Rattle.folder.proofs.files_in.Goals as goal

@@ -1,7 +1,5 @@
 -- `folder::load_files` meets its contract.
 -- Assumes nothing.
-use native.Mathlib.Omega.{arith}
-use borrow.Author.Rules.{rules}
 use Rattle.folder.proofs.FolderLaws.{lengths}
 use Rattle.folder.proofs.load_files.Goals as goal
 

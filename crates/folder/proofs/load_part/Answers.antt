@@ -2,7 +2,6 @@
 -- Assumes nothing.
 use Prim.Native.Nat.{◌*◌}
 use native.Mathlib.Omega.{arith}
-use borrow.Author.Rules.{rules}
 use Rattle.folder.specs.Folder.{file_room}
 use Rattle.folder.proofs.FolderLaws.{part-most}
 use Rattle.folder.proofs.load_part.Goals as goal

@@ -2,7 +2,6 @@
 -- Assumes nothing.
 use native.Mathlib.Omega.{arith}
 use lib.ListN.{length-take}
-use borrow.Author.Rules.{rules}
 use Rattle.metacases.proofs.tell_first.Goals as goal
 
 pub slice_bounds-tell-end : goal.slice_bounds-tell-end

@@ -1,7 +1,6 @@
 -- `writes::untouched` is safe and ends: the bytes that are left fall.
 -- Assumes nothing.
 use Prim.Native.Nat.{◌≤◌, ◌-◌}
-use borrow.Author.Rules.{rules}
 use lib.ListN.{length}
 use Rattle.writes.proofs.untouched.Given as goal
 

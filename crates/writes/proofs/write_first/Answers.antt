@@ -1,6 +1,5 @@
 -- `writes::write_first` is safe: no more is lent than the room has.
 -- Assumes nothing.
-use borrow.Author.Rules.{rules}
 use native.Mathlib.Omega.{arith}
 use lib.ListN.{length-take}
 use Rattle.writes.proofs.write_first.Goals as goal

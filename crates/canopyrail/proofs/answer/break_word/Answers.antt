@@ -2,7 +2,6 @@
 -- Assumes nothing.
 use mathlib.Core.Path.{◌∙◌}
 use Rattle.canopyrail.specs.Answers.{break_word}
-use borrow.Author.Rules.{rules}
 use Rattle.canopyrail.proofs.answer.break_word.Goals as goal
 
 pub returns : goal.returns

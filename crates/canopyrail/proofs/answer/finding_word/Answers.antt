@@ -1,6 +1,5 @@
 -- `canopyrail::answer::finding_word` meets its contract.
 -- Assumes nothing.
-use borrow.Author.Rules.{rules}
 use Rattle.canopyrail.proofs.answer.finding_word.Goals as goal
 
 pub returns-in-Broken : goal.returns-in-Broken

@@ -1,7 +1,6 @@
 -- `canopyrail::answer::other_of` meets its contract.
 -- Assumes nothing.
 use Rattle.canopyrail.proofs.CallLaws.{other_none}
-use borrow.Author.Rules.{rules}
 use borrow.Enum.Refused.{opened}
 use Rattle.canopyrail.proofs.answer.other_of.Goals as goal
 

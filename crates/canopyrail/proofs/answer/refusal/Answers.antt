@@ -2,7 +2,6 @@
 -- Assumes nothing.
 use mathlib.Core.Path.{◌∙◌}
 use Rattle.canopyrail.specs.Answers.{refusal_word}
-use borrow.Author.Rules.{rules}
 use Rattle.canopyrail.proofs.answer.refusal.Goals as goal
 
 pub returns : goal.returns

@@ -2,7 +2,6 @@
 -- Assumes nothing.
 use mathlib.Core.Path.{refl}
 use Rattle.canopyrail.specs.Answers.{answer_number}
-use borrow.Author.Rules.{rules}
 use Rattle.canopyrail.proofs.answer.word_of.Goals as goal
 
 pub returns : goal.returns

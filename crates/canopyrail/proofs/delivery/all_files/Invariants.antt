@@ -2,14 +2,10 @@
 -- Assumes nothing.
 use Prim.Native.Nat.{◌-◌, ◌≤◌}
 use mathlib.Core.List.{[], map}
-use mathlib.Core.Path.{◌≡◌, refl, ◌∙◌}
-use native.Mathlib.Omega.{arith}
-use lib.ListN.{length, take, get_or, length-set, length-map}
-use borrow.Author.Rules.{rules}
+use mathlib.Core.Path.{◌≡◌}
+use lib.ListN.{length, take, get_or}
 use Rattle.laws.specs.Row.{row}
-use Rattle.laws.proofs.RowLaws.{row-start}
 use Rattle.record.specs.Table.{file_count}
-use Rattle.canopyrail.proofs.CallLaws.{lent-more, lent-end}
 use Rattle.canopyrail.proofs.delivery.all_files.Given as goal
 
 abbrev pub invariant-loop-n : goal.invariant-loop-n

@@ -1,6 +1,5 @@
 -- `canopyrail::delivery::canopyrail_count` meets its contract.
 -- Assumes nothing.
-use borrow.Author.Rules.{rules}
 use Rattle.canopyrail.proofs.CallLaws.{on_none, on_some}
 use Rattle.canopyrail.proofs.delivery.canopyrail_count.Goals as goal
 

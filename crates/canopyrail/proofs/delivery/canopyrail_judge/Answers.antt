@@ -1,7 +1,6 @@
 -- `canopyrail::delivery::canopyrail_judge` meets its contract.
 -- Assumes nothing.
 use mathlib.Core.Path.{ap, ◌∙◌}
-use borrow.Author.Rules.{rules}
 use Rattle.record.specs.Files.{Files}
 use Rattle.judge.specs.declared.judge.Verdict.{Verdict}
 use Rattle.judge.specs.Verdict.{judged, verdict_of}
@@ -14,6 +13,6 @@ returns-then-files-eq0 c = none_lent (λ x. x.now) c.args.files.now c.if-files-e
 
 pub returns : goal.returns
 unfolding verdict_of
-returns c =    c.finding_word.ensures
+returns c = c.finding_word.ensures
     ∙ ap (λ (v : Verdict). finding_word v.finding) c.judge-v.ensures
     ∙ ap (λ (files : Files). finding_word (judged files)) c.all_files.ensures

@@ -1,6 +1,5 @@
 -- `canopyrail::delivery::file_at` meets its contract.
 -- Assumes nothing.
-use borrow.Author.Rules.{rules}
 use Rattle.record.proofs.FileLaws.{inside, past}
 use Rattle.canopyrail.proofs.delivery.file_at.Goals as goal
 

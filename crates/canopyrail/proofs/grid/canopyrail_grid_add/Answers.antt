@@ -2,7 +2,6 @@
 -- Assumes nothing.
 use mathlib.Core.Path.{sym, ◌∙◌}
 use native.Mathlib.Omega.{arith}
-use borrow.Author.Rules.{rules}
 use Rattle.canopyrail.proofs.CellLaws.{adds-few, adds-few-from, adds-refused, adds-put}
 use Rattle.canopyrail.proofs.grid.canopyrail_grid_add.Goals as goal
 
@@ -13,9 +12,9 @@ pub returns-then-from-lt-CELLS : goal.returns-then-from-lt-CELLS
 returns-then-from-lt-CELLS c = adds-few-from _ _ (omega arith) c.if-from-lt-CELLS.true c.refusal-then-from-lt-CELLS.ensures
 
 pub returns-then-is_fine : goal.returns-then-is_fine
-returns-then-is_fine c =    adds-put _ _ (omega arith) (omega arith) c.grid_in-a.ensures c.grid_in-b.ensures c.add_finding-finding.ensures
+returns-then-is_fine c = adds-put _ _ (omega arith) (omega arith) c.grid_in-a.ensures c.grid_in-b.ensures c.add_finding-finding.ensures
     (sym c.is_fine.ensures ∙ c.if-is_fine.true) c.add.ensures c.put_grid.ensures
 
 pub returns : goal.returns
-returns c =    adds-refused _ _ (omega arith) (omega arith) c.grid_in-a.ensures c.grid_in-b.ensures c.add_finding-finding.ensures
+returns c = adds-refused _ _ (omega arith) (omega arith) c.grid_in-a.ensures c.grid_in-b.ensures c.add_finding-finding.ensures
     (sym c.is_fine.ensures ∙ c.if-is_fine.false) c.finding_word.ensures

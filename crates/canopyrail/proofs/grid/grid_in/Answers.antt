@@ -1,13 +1,8 @@
 -- `canopyrail::grid::grid_in` meets its contract.
 -- Assumes nothing.
-use Prim.Native.Nat.{◌-◌, ◌≤◌, ◌<◌}
 use mathlib.Core.Path.{refl}
 use native.Mathlib.Omega.{arith}
-use borrow.Author.Rules.{rules}
-use Rattle.record.specs.Table.{file_count}
-use Rattle.judge.specs.Broken.{groups}
-use Rattle.grids.proofs.FillLaws.{Filling, fill_start, fill-cell, fill-row, fill_end}
-use Rattle.canopyrail.proofs.CellLaws.{held_cell}
+use Rattle.grids.proofs.FillLaws.{fill_start, fill-cell, fill-row, fill_end}
 use Rattle.canopyrail.proofs.grid.grid_in.Goals as goal
 
 pub loop-i-init : goal.loop-i-init
@@ -17,11 +12,11 @@ pub loop-g-init : goal.loop-g-init
 loop-g-init c = (omega (arith, c.loop-i-test.true), omega arith, c.loop-i.invariant.1)
 
 pub loop-g-preserved : goal.loop-g-preserved
-loop-g-preserved c =    let l = c.loop-g in
+loop-g-preserved c = let l = c.loop-g in
     (l.invariant.0, omega (arith, c.loop-g-test.true), fill-cell l.invariant.0 (omega (arith, c.loop-g-test.true)) l.invariant.2 refl)
 
 pub loop-i-preserved : goal.loop-i-preserved
-loop-i-preserved c =    let l = c.loop-g in
+loop-i-preserved c = let l = c.loop-g in
     (omega (arith, l.invariant.0), fill-row c.loop-g-test.false l.invariant.2)
 
 pub returns : goal.returns

@@ -1,12 +1,9 @@
 -- `canopyrail::grid::grid_in` meets its contract.
 -- Assumes nothing.
 use Prim.Native.Nat.{◌-◌, ◌≤◌, ◌<◌}
-use mathlib.Core.Path.{refl}
-use native.Mathlib.Omega.{arith}
-use borrow.Author.Rules.{rules}
 use Rattle.record.specs.Table.{file_count}
 use Rattle.judge.specs.Broken.{groups}
-use Rattle.grids.proofs.FillLaws.{Filling, fill_start, fill-cell, fill-row, fill_end}
+use Rattle.grids.proofs.FillLaws.{Filling}
 use Rattle.canopyrail.proofs.CellLaws.{held_cell}
 use Rattle.canopyrail.proofs.grid.grid_in.Given as goal
 

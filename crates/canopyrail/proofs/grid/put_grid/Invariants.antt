@@ -1,12 +1,9 @@
 -- `canopyrail::grid::put_grid` meets its contract.
 -- Assumes nothing.
 use Prim.Native.Nat.{◌-◌, ◌/◌, ◌%◌, ◌≤◌}
-use mathlib.Core.Path.{◌≡◌, refl}
-use native.Mathlib.Omega.{arith}
-use borrow.Author.Rules.{rules}
 use Rattle.judge.specs.Broken.{groups}
 use Rattle.grids.specs.Sum.{cell_at}
-use Rattle.laws.proofs.PutLaws.{Putting, putting-start, putting-more, putting-end}
+use Rattle.laws.proofs.PutLaws.{Putting}
 use Rattle.canopyrail.specs.Cells.{cell_count}
 use Rattle.canopyrail.proofs.grid.put_grid.Given as goal
 

@@ -1,6 +1,5 @@
 -- `canopyrail::one::answer_word` meets its contract.
 -- Assumes nothing.
-use borrow.Author.Rules.{rules}
 use Rattle.canopyrail.proofs.one.answer_word.Goals as goal
 
 pub returns-in-Refused : goal.returns-in-Refused

@@ -1,13 +1,8 @@
 -- `canopyrail::one::lend_record` meets its contract.
 -- Assumes nothing.
 use Prim.Native.Nat.{◌-◌}
-use native.Mathlib.Omega.{arith}
 use Rattle.record.specs.Table.{most_fields}
-use Rattle.record.specs.Cut.{text_of}
-use Rattle.codec.proofs.StoreLaws.{storing-start}
-use Rattle.canopyrail.proofs.LentLaws.{Lending, lending-more, lending-none, lending-end}
-use mathlib.Core.Path.{refl}
-use borrow.Author.Rules.{rules}
+use Rattle.canopyrail.proofs.LentLaws.{Lending}
 use Rattle.canopyrail.proofs.one.lend_record.Given as goal
 
 abbrev pub invariant-loop-i : goal.invariant-loop-i

@@ -1,7 +1,6 @@
 -- `canopyrail::table::canopyrail_form` meets its contract.
 -- Assumes nothing.
 use Rattle.canopyrail.proofs.CallLaws.{on_none, on_some}
-use borrow.Author.Rules.{rules}
 use Rattle.canopyrail.proofs.table.canopyrail_form.Goals as goal
 
 pub returns-in-NoFile : goal.returns-in-NoFile

@@ -3,7 +3,6 @@
 use mathlib.Core.Path.{sym, ◌∙◌}
 use borrow.Author.Tests.{ne_eqb}
 use Rattle.canopyrail.specs.Lent.{lent_offset}
-use borrow.Author.Rules.{rules}
 use Rattle.canopyrail.proofs.table.offset_in.Goals as goal
 
 pub returns-then-width-eq0 : goal.returns-then-width-eq0

@@ -2,7 +2,6 @@
 -- Assumes nothing.
 use mathlib.Core.Path.{◌∙◌}
 use Rattle.codec.specs.machinery.Held.{text_held}
-use borrow.Author.Rules.{rules}
 use Rattle.codec.proofs.held.text_at.Goals as goal
 
 pub returns : goal.returns

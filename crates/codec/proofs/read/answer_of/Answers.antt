@@ -1,6 +1,5 @@
 -- `codec::read::answer_of` meets its contract.
 -- Assumes nothing.
-use borrow.Author.Rules.{rules}
 use Rattle.codec.proofs.read.answer_of.Goals as goal
 
 pub returns-in-Broken : goal.returns-in-Broken

@@ -1,6 +1,5 @@
 -- `codec::read::no_reading` meets its contract.
 -- Assumes nothing.
-use borrow.Author.Rules.{rules}
 use Rattle.codec.proofs.read.no_reading.Goals as goal
 
 pub returns : goal.returns

@@ -2,7 +2,6 @@
 -- Assumes nothing.
 use mathlib.Core.Path.{◌∙◌}
 use Rattle.codec.proofs.ReadLaws.{put-none}
-use borrow.Author.Rules.{rules}
 use borrow.Enum.Refused.{opened}
 use Rattle.codec.proofs.read.put_words.Goals as goal
 
@@ -13,4 +12,4 @@ pub returns-in-Code : goal.returns-in-Code
 returns-in-Code c = rw c.in-Code.is c.put_text-in-Code.ensures
 
 pub returns-in_default : goal.returns-in_default
-returns-in_default c =    c.put_text-in_default.ensures ∙ put-none _ _ c.args.form _ (opened c.in_default.in_default-own.keys3)
+returns-in_default c = c.put_text-in_default.ensures ∙ put-none _ _ c.args.form _ (opened c.in_default.in_default-own.keys3)

@@ -1,7 +1,6 @@
 -- `codec::read::read` meets its contract.
 -- Assumes nothing.
 use Rattle.codec.specs.Calls.{read_of}
-use borrow.Author.Rules.{rules}
 use Rattle.codec.proofs.read.read.Goals as goal
 
 pub returns-in-NoFile : goal.returns-in-NoFile

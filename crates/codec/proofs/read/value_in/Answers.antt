@@ -11,7 +11,7 @@ use borrow.Author.Rules.{rules}
 use Rattle.codec.proofs.read.value_in.Goals as goal
 
 pub returns : goal.returns
-returns c =    let a = c.args in
+returns c = let a = c.args in
     let t = c.field-t.result.now in
     let b = text_of a.rec.now a.k a.i in
     let held = c.length_as-held.ensures b in

@@ -1,12 +1,9 @@
 -- `codec::read::values_in` meets its contract.
 -- Assumes nothing.
-use Prim.Native.Nat.{◌-◌, ◌≤◌}
 use mathlib.Core.List.{[]}
-use mathlib.Core.Path.{◌≡◌, refl, ap}
+use mathlib.Core.Path.{refl, ap}
 use native.Mathlib.Omega.{arith}
-use lib.ListN.{length, take, length-set}
-use borrow.Author.Rules.{rules}
-use Rattle.laws.specs.Row.{row}
+use lib.ListN.{length-set}
 use Rattle.laws.proofs.RowLaws.{row-start, row_more, row-end}
 use Rattle.codec.specs.Values.{values_in}
 use Rattle.codec.proofs.ReadLaws.{value_no}
@@ -16,7 +13,7 @@ pub loop-i-init : goal.loop-i-init
 loop-i-init c = (omega arith, refl, row-start _ [])
 
 pub loop-i-preserved : goal.loop-i-preserved
-loop-i-preserved c =    let a = c.args in
+loop-i-preserved c = let a = c.args in
     let l = c.loop-i in (
       omega arith,
       simp length-set l.invariant.1,
@@ -25,6 +22,6 @@ loop-i-preserved c =    let a = c.args in
 
 pub returns : goal.returns
 unfolding values_in
-returns c =    let a = c.args in
+returns c = let a = c.args in
     let l = c.loop-i in
     ap (λ at. record { at = at }) (row-end (value_no a.rec.now a.k) l.at l.invariant.1 l.invariant.0 c.loop-i-test.false l.invariant.2)

@@ -1,14 +1,9 @@
 -- `codec::read::values_in` meets its contract.
 -- Assumes nothing.
 use Prim.Native.Nat.{◌-◌, ◌≤◌}
-use mathlib.Core.List.{[]}
-use mathlib.Core.Path.{◌≡◌, refl, ap}
-use native.Mathlib.Omega.{arith}
-use lib.ListN.{length, take, length-set}
-use borrow.Author.Rules.{rules}
+use mathlib.Core.Path.{◌≡◌}
+use lib.ListN.{length, take}
 use Rattle.laws.specs.Row.{row}
-use Rattle.laws.proofs.RowLaws.{row-start, row_more, row-end}
-use Rattle.codec.specs.Values.{values_in}
 use Rattle.codec.proofs.ReadLaws.{value_no}
 use Rattle.codec.proofs.read.values_in.Given as goal
 

@@ -1,7 +1,6 @@
 -- `codec::read::words_len` meets its contract.
 -- Assumes nothing.
 use Rattle.codec.proofs.ReadLaws.{length_none}
-use borrow.Author.Rules.{rules}
 use borrow.Enum.Refused.{opened}
 use Rattle.codec.proofs.read.words_len.Goals as goal
 

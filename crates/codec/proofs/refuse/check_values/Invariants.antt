@@ -1,17 +1,11 @@
 -- `codec::refuse::check_values` meets its contract: the loop stops at the first field that is refused.
 -- Assumes nothing.
-use Prim.Native.Nat.{◌≤◌, ◌+◌, ◌-◌}
+use Prim.Native.Nat.{◌≤◌, ◌-◌}
 use mathlib.Core.Option.{none}
-use mathlib.Core.Path.{◌≡◌, ◌∙◌, sym}
-use native.Mathlib.Omega.{arith}
+use mathlib.Core.Path.{◌≡◌}
 use Rattle.laws.specs.Find.{first_of}
-use Rattle.laws.proofs.FindLaws.{first-start}
-use Rattle.record.specs.Table.{fields_of}
-use Rattle.record.proofs.TableLaws.{sane}
-use Rattle.record.proofs.FindingLaws.{finding-more, finding-here, finding-end}
 use Rattle.codec.specs.machinery.Held.{held_at, say_by}
-use Rattle.codec.proofs.RefuseLaws.{in_values, values-is, value-turn}
-use borrow.Author.Rules.{rules}
+use Rattle.codec.proofs.RefuseLaws.{in_values}
 use Rattle.codec.proofs.refuse.check_values.Given as goal
 
 abbrev pub invariant-loop-f : goal.invariant-loop-f

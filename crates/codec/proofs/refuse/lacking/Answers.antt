@@ -1,6 +1,5 @@
 -- `codec::refuse::lacking` meets its contract.
 -- Assumes nothing.
-use borrow.Author.Rules.{rules}
 use Rattle.codec.proofs.refuse.lacking.Goals as goal
 
 pub returns-then-gone : goal.returns-then-gone

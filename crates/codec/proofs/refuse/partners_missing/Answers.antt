@@ -1,14 +1,10 @@
 -- `codec::refuse::partners_missing` meets its contract: the loop stops at the first partner that is not blank.
 -- Assumes nothing.
-use Prim.Native.Nat.{ℕ, ◌-◌}
-use mathlib.Core.List.{List}
-use lib.IntN.{ℤ}
 use native.Mathlib.Omega.{arith}
-use Rattle.laws.proofs.RowLaws.{Left, left-all, left-more, left-stop, left-none}
+use Rattle.laws.proofs.RowLaws.{left-all, left-more, left-stop, left-none}
 use Rattle.codec.specs.Refusals.{blank_at, partners_missing}
 use Rattle.codec.specs.machinery.Held.{held_at, say_by}
 use Rattle.codec.proofs.RefuseLaws.{partners-near}
-use borrow.Author.Rules.{rules}
 use Rattle.codec.proofs.refuse.partners_missing.Goals as goal
 
 pub overflow_add-n : goal.overflow_add-n
@@ -19,14 +15,14 @@ overflow_add-n-2 c = omega arith
 
 pub loop-j-init : goal.loop-j-init
 unfolding partners_missing
-loop-j-init c =    λ n z t. left-all (λ b. b) (blank_at c.args.k (say_by c.args.k (held_at n z c.args.lengths.now t))) (omega arith) (omega arith)
+loop-j-init c = λ n z t. left-all (λ b. b) (blank_at c.args.k (say_by c.args.k (held_at n z c.args.lengths.now t))) (omega arith) (omega arith)
 
 pub overflow_add-from : goal.overflow_add-from
-overflow_add-from c =    let a = c.args in
+overflow_add-from c = let a = c.args in
     omega (arith, partners-near a.k a.f)
 
 pub blank_at-requires : goal.blank_at-requires
-blank_at-requires c =    let a = c.args in
+blank_at-requires c = let a = c.args in
     omega (arith, partners-near a.k a.f)
 
 pub overflow_add-j : goal.overflow_add-j
@@ -36,10 +32,10 @@ pub loop-j-smaller : goal.loop-j-smaller
 loop-j-smaller c = omega arith
 
 pub loop-j-preserved : goal.loop-j-preserved
-loop-j-preserved c =    λ n z t. left-more (c.loop-j.invariant n z t) (c.blank_at.ensures n z t) c.loop-j-test.true c.if-blank_at.true
+loop-j-preserved c = λ n z t. left-more (c.loop-j.invariant n z t) (c.blank_at.ensures n z t) c.loop-j-test.true c.if-blank_at.true
 
 pub returns-else-blank_at : goal.returns-else-blank_at
-returns-else-blank_at c =    λ n z t. left-stop (c.loop-j.invariant n z t) (c.blank_at.ensures n z t) c.loop-j-test.true c.if-blank_at.false
+returns-else-blank_at c = λ n z t. left-stop (c.loop-j.invariant n z t) (c.blank_at.ensures n z t) c.loop-j-test.true c.if-blank_at.false
 
 pub returns : goal.returns
 returns c = λ n z t. left-none (c.loop-j.invariant n z t) c.loop-j-test.false

@@ -3,12 +3,9 @@
 use Prim.Native.Nat.{ℕ, ◌-◌}
 use mathlib.Core.List.{List}
 use lib.IntN.{ℤ}
-use native.Mathlib.Omega.{arith}
-use Rattle.laws.proofs.RowLaws.{Left, left-all, left-more, left-stop, left-none}
+use Rattle.laws.proofs.RowLaws.{Left}
 use Rattle.codec.specs.Refusals.{blank_at, partners_missing}
 use Rattle.codec.specs.machinery.Held.{held_at, say_by}
-use Rattle.codec.proofs.RefuseLaws.{partners-near}
-use borrow.Author.Rules.{rules}
 use Rattle.codec.proofs.refuse.partners_missing.Given as goal
 
 abbrev pub invariant-loop-j : goal.invariant-loop-j

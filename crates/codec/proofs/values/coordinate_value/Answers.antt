@@ -11,5 +11,5 @@ use Rattle.codec.proofs.values.coordinate_value.Goals as goal
 
 pub returns : goal.returns
 unfolding value_of
-returns c =    let f : SFits w64 c.args.z = search rules in
+returns c = let f : SFits w64 c.args.z = search rules in
     ap (λ z. value_of (coordinate z)) (to_z-of_z f)

@@ -1,7 +1,6 @@
 -- `codec::write::held_length` meets its contract.
 -- Assumes nothing.
 use Rattle.codec.proofs.WriteLaws.{length-given, length-missing}
-use borrow.Author.Rules.{rules}
 use borrow.Enum.Refused.{opened}
 use Rattle.codec.proofs.write.held_length.Goals as goal
 

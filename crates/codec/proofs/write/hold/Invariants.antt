@@ -1,13 +1,11 @@
 -- `codec::write::hold` meets its contract.
 -- Assumes nothing.
-use Rattle.codec.proofs.StoreLaws.{Laying, storing-start, laying-more, laid-says}
+use Rattle.codec.proofs.StoreLaws.{Laying}
 use Prim.Native.Nat.{ℕ, ◌+◌, ◌-◌, ◌<◌}
 use mathlib.Core.Path.{◌≡◌}
-use native.Mathlib.Omega.{arith}
 use lib.ListN.{length}
 use Rattle.record.specs.Table.{most_fields, widest}
 use Rattle.codec.specs.Values.{value_at}
-use borrow.Author.Rules.{rules}
 use Rattle.codec.proofs.write.hold.Given as goal
 
 abbrev pub invariant-loop-i : goal.invariant-loop-i

@@ -2,7 +2,6 @@
 -- Assumes nothing.
 use mathlib.Core.Path.{◌∙◌}
 use Rattle.codec.proofs.WriteLaws.{put-none}
-use borrow.Author.Rules.{rules}
 use Rattle.codec.proofs.write.put_blanks.Goals as goal
 
 pub returns : goal.returns

@@ -1,7 +1,6 @@
 -- `codec::write::put_digits` meets its contract.
 -- Assumes nothing.
 use borrow.Author.Tests.{ne_eqb}
-use borrow.Author.Rules.{rules}
 use Rattle.codec.proofs.write.put_digits.Goals as goal
 
 pub returns-then-len-eq0 : goal.returns-then-len-eq0

@@ -1,13 +1,8 @@
 -- `codec::write::put_record` meets its contract.
 -- Assumes nothing.
 use Prim.Native.Nat.{◌-◌}
-use mathlib.Core.Path.{sym, ◌∙◌}
-use native.Mathlib.Omega.{arith}
-use lib.ListN.{length-set}
-use Rattle.record.proofs.TableLaws.{sane}
 use Rattle.codec.specs.machinery.Held.{held_at, say_by}
-use Rattle.codec.proofs.WriteLaws.{Filling, filling-start, fits-here, filling-more, last-place, all-written}
-use borrow.Author.Rules.{rules}
+use Rattle.codec.proofs.WriteLaws.{Filling}
 use Rattle.codec.proofs.write.put_record.Given as goal
 
 abbrev pub invariant-loop-f : goal.invariant-loop-f

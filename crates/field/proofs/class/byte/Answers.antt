@@ -2,7 +2,6 @@
 -- Assumes nothing.
 use mathlib.Core.Path.{sym}
 use lib.ListN.{get_or-eq_default}
-use borrow.Author.Rules.{rules}
 use Rattle.field.proofs.class.byte.Goals as goal
 
 pub returns-else-i-t : goal.returns-else-i-t

@@ -2,7 +2,6 @@
 -- Assumes nothing.
 use native.Mathlib.Omega.{arith}
 use Rattle.field.proofs.AtOnceLaws.{eight-sum, at-once-none, at_once}
-use borrow.Author.Rules.{rules}
 use Rattle.field.proofs.number.eight_at_once.Goals as goal
 
 pub returns-then-under_four-lt48 : goal.returns-then-under_four-lt48

@@ -1,6 +1,6 @@
 -- `field::number::get_number` meets its contract. The loop's invariant: n is the number of the k bytes passed, and is small.
 -- Assumes nothing.
-use Prim.Native.Nat.{◌≤◌, ◌-◌, ◌+◌, ◌*◌, ◌^◌, min}
+use Prim.Native.Nat.{◌≤◌, min}
 use mathlib.Core.Path.{◌≡◌, ◌∙◌}
 use native.Mathlib.Nat.{pow-le-pow_right}
 use native.Mathlib.Omega.{arith}
@@ -20,7 +20,7 @@ bounds-part-k c = omega arith
 pub overflow_add-n : goal.overflow_add-n
 overflow_add-n c =
     -- the next digit
-    let small : c.digit_of.result ≤ 207 = omega (arith, c.digit_of.ensures, c.type_inv.part c.loop-k.k) in 
+    let small : c.digit_of.result ≤ 207 = omega (arith, c.digit_of.ensures, c.type_inv.part c.loop-k.k) in
     omega (arith, small, pow-le-pow_right {n = 10} (lit< tt) {i = c.loop-k.k} {j = 9} (omega arith))
 
 pub overflow_add-k : goal.overflow_add-k
@@ -31,7 +31,7 @@ loop-k-smaller c = omega arith
 
 pub loop-k-preserved : goal.loop-k-preserved
 loop-k-preserved c =
-    let small : c.digit_of.result ≤ 207 = omega (arith, c.digit_of.ensures, c.type_inv.part c.loop-k.k) in 
+    let small : c.digit_of.result ≤ 207 = omega (arith, c.digit_of.ensures, c.type_inv.part c.loop-k.k) in
     let l = c.loop-k in (
       omega arith,
       omega (arith, c.digit_of.ensures, number_more l.k c.args.part.now),
@@ -39,7 +39,7 @@ loop-k-preserved c =
     )
 
 pub returns : goal.returns
-returns c =    let p = c.args.part.now in
+returns c = let p = c.args.part.now in
     let e : c.loop-k.k ≡ min 10 (length p) = omega arith in record { value = c.loop-k.invariant.1 ∙ number-end p e; small = omega (arith, pow-le-pow_right {n = 10} (lit< tt) {i = c.loop-k.k} {j = 10} (omega arith)) }
 
 pub loop-k-init : goal.loop-k-init

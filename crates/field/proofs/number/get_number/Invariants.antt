@@ -1,14 +1,8 @@
 -- `field::number::get_number` meets its contract. The loop's invariant: n is the number of the k bytes passed, and is small.
 -- Assumes nothing.
-use Prim.Native.Nat.{◌≤◌, ◌-◌, ◌+◌, ◌*◌, ◌^◌, min}
-use mathlib.Core.Path.{◌≡◌, ◌∙◌}
-use native.Mathlib.Nat.{pow-le-pow_right}
-use native.Mathlib.Omega.{arith}
-use lib.Dec.{lit<}
-use lib.ListN.{length}
+use Prim.Native.Nat.{◌≤◌, ◌-◌, ◌+◌, ◌*◌, ◌^◌}
+use mathlib.Core.Path.{◌≡◌}
 use Rattle.field.specs.Digits.{digits_number}
-use Rattle.field.proofs.NumberLoops.{number_more, number-end, bound-more}
-use borrow.Author.Rules.{rules}
 use Rattle.field.proofs.number.get_number.Given as goal
 
 abbrev pub invariant-loop-k : goal.invariant-loop-k

@@ -4,7 +4,6 @@ use Prim.Native.Nat.{ℕ}
 use mathlib.Core.Path.{sym, ap}
 use lib.Dec.{ltb}
 use Rattle.field.proofs.NumberLoops.{below_power}
-use borrow.Author.Rules.{rules}
 use Rattle.field.proofs.number.has_digits.Goals as goal
 
 pub returns-then-w-lt20 : goal.returns-then-w-lt20

@@ -1,7 +1,6 @@
 -- `field::number::magnitude` meets its contract, at the least number too.
 -- Assumes nothing.
 use Rattle.field.proofs.SignLaws.{flips, cast-neg, size_fits, size_is, cast-pos}
-use borrow.Author.Rules.{rules}
 use Rattle.field.proofs.number.magnitude.Goals as goal
 
 pub overflow_sub-result : goal.overflow_sub-result

@@ -63,6 +63,6 @@ pub returns-in-18 : goal.returns-in-18
 returns-in-18 c = rw c.in-18.is
 
 pub returns-in_default : goal.returns-in_default
-returns-in_default c =    let l = none-past 0 19 c.args.w c.in_default.in_default-own.rest (omega arith) in
+returns-in_default c = let l = none-past 0 19 c.args.w c.in_default.in_default-own.rest (omega arith) in
     let e : c.args.w ≡ 19 = omega (arith, c.requires) in
     rw e

@@ -1,10 +1,8 @@
 -- `field::number::put_number` meets its contract. The loop's invariant: the digits of what is left, before the digits that stand from k on, are the digits of n.
 -- Assumes nothing.
-use Prim.Native.Nat.{◌≤◌}
 use mathlib.Core.Path.{◌≡◌, ◌∙◌, refl}
-use mathlib.Core.List.{◌++◌}
 use native.Mathlib.Omega.{arith}
-use lib.ListN.{length, drop, length-set}
+use lib.ListN.{length-set}
 use Rattle.field.specs.Digits.{digits}
 use Rattle.field.proofs.NumberLoops.{digits-start, digits-turn}
 use Rattle.field.proofs.number.put_number.Goals as goal
@@ -28,16 +26,16 @@ pub loop-k-smaller : goal.loop-k-smaller
 loop-k-smaller c = omega arith
 
 pub loop-k-preserved : goal.loop-k-preserved
-loop-k-preserved c =    let l = c.loop-k in (
-      simp length-set l.invariant.0,
-      simp length-set (omega arith),
-      digits-turn l.k l.left l.part c.loop-k-test.true l.invariant.1 ∙ l.invariant.2,
-    )
+loop-k-preserved c = let l = c.loop-k in (
+  simp length-set l.invariant.0,
+  simp length-set (omega arith),
+  digits-turn l.k l.left l.part c.loop-k-test.true l.invariant.1 ∙ l.invariant.2,
+)
 
 pub shape_of-part : goal.shape_of-part
 shape_of-part c = c.loop-k.invariant.0
 
 pub returns : goal.returns
 unfolding digits
-returns c =    let e : c.loop-k.k ≡ 0 = omega arith in
+returns c = let e : c.loop-k.k ≡ 0 = omega arith in
     rw e at c.loop-k.invariant.2

@@ -1,12 +1,10 @@
 -- `field::number::put_number` meets its contract. The loop's invariant: the digits of what is left, before the digits that stand from k on, are the digits of n.
 -- Assumes nothing.
 use Prim.Native.Nat.{◌≤◌}
-use mathlib.Core.Path.{◌≡◌, ◌∙◌, refl}
+use mathlib.Core.Path.{◌≡◌}
 use mathlib.Core.List.{◌++◌}
-use native.Mathlib.Omega.{arith}
-use lib.ListN.{length, drop, length-set}
+use lib.ListN.{length, drop}
 use Rattle.field.specs.Digits.{digits}
-use Rattle.field.proofs.NumberLoops.{digits-start, digits-turn}
 use Rattle.field.proofs.number.put_number.Given as goal
 
 abbrev pub invariant-loop-k : goal.invariant-loop-k

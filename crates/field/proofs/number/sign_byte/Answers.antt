@@ -2,7 +2,6 @@
 -- Assumes nothing.
 use mathlib.Core.Bool.{true, false}
 use Rattle.field.proofs.SignLaws.{sign_at}
-use borrow.Author.Rules.{rules}
 use Rattle.field.proofs.number.sign_byte.Goals as goal
 
 pub returns-then-negative : goal.returns-then-negative

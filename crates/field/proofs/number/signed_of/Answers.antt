@@ -1,7 +1,6 @@
 -- `field::number::signed_of` meets its contract.
 -- Assumes nothing.
 use Rattle.field.proofs.SignLaws.{minus-fits, minus-back, plus-back}
-use borrow.Author.Rules.{rules}
 use Rattle.field.proofs.number.signed_of.Goals as goal
 
 pub overflow_sub-result : goal.overflow_sub-result

@@ -1,7 +1,6 @@
 -- `field::number::under_four` meets its contract: bytes and'ed are at most each of them.
 -- Assumes nothing.
 use Rattle.field.proofs.AtOnceLaws.{under-and}
-use borrow.Author.Rules.{rules}
 use Rattle.field.proofs.number.under_four.Goals as goal
 
 pub returns : goal.returns

@@ -1,7 +1,6 @@
 -- `field::words::not_given` meets its contract.
 -- Assumes nothing.
 use Rattle.field.proofs.TextLoops.{not-given-is}
-use borrow.Author.Rules.{rules}
 use Rattle.field.proofs.words.not_given.Goals as goal
 
 pub returns : goal.returns

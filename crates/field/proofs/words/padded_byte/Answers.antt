@@ -1,7 +1,6 @@
 -- `field::words::padded_byte` meets its contract.
 -- Assumes nothing.
 use borrow.Author.Tests.{lt-ltb, le-ltb}
-use borrow.Author.Rules.{rules}
 use Rattle.field.proofs.words.padded_byte.Goals as goal
 
 pub returns-then-k-len : goal.returns-then-k-len

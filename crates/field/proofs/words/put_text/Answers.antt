@@ -2,9 +2,7 @@
 -- Assumes nothing.
 use mathlib.Core.Path.{refl}
 use native.Mathlib.Omega.{arith}
-use Prim.Native.Nat.{◌≤◌, ◌-◌}
-use Rattle.field.proofs.TextLoops.{Laid, laid-start, laid-there, laid-zero, laid-blank, laid_end, past-text}
-use borrow.Author.Rules.{rules}
+use Rattle.field.proofs.TextLoops.{laid-start, laid-there, laid-zero, laid-blank, laid_end, past-text}
 use Rattle.field.proofs.words.put_text.Goals as goal
 
 pub loop-k-init : goal.loop-k-init
@@ -14,13 +12,13 @@ pub bounds-text-k : goal.bounds-text-k
 bounds-text-k c = omega (arith, c.shorter-there.ensures)
 
 pub bounds-part-k : goal.bounds-part-k
-bounds-part-k c =    omega (arith, c.shorter-there.ensures, c.shorter-given.ensures, c.loop-k.invariant.0.long)
+bounds-part-k c = omega (arith, c.shorter-there.ensures, c.shorter-given.ensures, c.loop-k.invariant.0.long)
 
 pub loop-k-smaller : goal.loop-k-smaller
 loop-k-smaller c = omega arith
 
 pub loop-k-preserved : goal.loop-k-preserved
-loop-k-preserved c =    (laid-there c.loop-k.invariant.0 (omega (arith, c.shorter-there.ensures, c.shorter-given.ensures)) (omega (arith, c.shorter-there.ensures, c.shorter-given.ensures)), omega arith)
+loop-k-preserved c = (laid-there c.loop-k.invariant.0 (omega (arith, c.shorter-there.ensures, c.shorter-given.ensures)) (omega (arith, c.shorter-there.ensures, c.shorter-given.ensures)), omega arith)
 
 pub loop-k-2-init : goal.loop-k-2-init
 loop-k-2-init c = (c.loop-k.invariant.0, omega arith, omega (arith, c.shorter-there.ensures, c.loop-k.invariant.1))
@@ -32,7 +30,7 @@ pub loop-k-2-smaller : goal.loop-k-2-smaller
 loop-k-2-smaller c = omega arith
 
 pub loop-k-2-preserved : goal.loop-k-2-preserved
-loop-k-2-preserved c =    (laid-zero c.loop-k-2.invariant.0 (omega (arith, c.shorter-given.ensures)) (omega (arith, c.shorter-given.ensures)) (let e = c.shorter-there.ensures.2 (omega (arith, c.loop-k-2.invariant.1)) in omega (arith, c.loop-k-2.invariant.1)), omega (arith, c.loop-k-2.invariant.1), omega arith)
+loop-k-2-preserved c = (laid-zero c.loop-k-2.invariant.0 (omega (arith, c.shorter-given.ensures)) (omega (arith, c.shorter-given.ensures)) (let e = c.shorter-there.ensures.2 (omega (arith, c.loop-k-2.invariant.1)) in omega (arith, c.loop-k-2.invariant.1)), omega (arith, c.loop-k-2.invariant.1), omega arith)
 
 pub loop-k-3-init : goal.loop-k-3-init
 loop-k-3-init c = (c.loop-k-2.invariant.0, omega arith)
@@ -44,7 +42,7 @@ pub loop-k-3-smaller : goal.loop-k-3-smaller
 loop-k-3-smaller c = omega arith
 
 pub loop-k-3-preserved : goal.loop-k-3-preserved
-loop-k-3-preserved c =    (laid-blank c.loop-k-3.invariant.0 (omega arith) (past-text c.shorter-given.ensures.2 c.loop-k-3.invariant.1 (omega arith)), omega (arith, c.loop-k-3.invariant.1))
+loop-k-3-preserved c = (laid-blank c.loop-k-3.invariant.0 (omega arith) (past-text c.shorter-given.ensures.2 c.loop-k-3.invariant.1 (omega arith)), omega (arith, c.loop-k-3.invariant.1))
 
 pub shape_of-part : goal.shape_of-part
 shape_of-part c = c.loop-k-3.invariant.0.long

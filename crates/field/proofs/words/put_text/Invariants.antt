@@ -1,10 +1,7 @@
 -- `field::words::put_text` meets its contract. The loops' invariant: the first k bytes are those of the padded text.
 -- Assumes nothing.
-use mathlib.Core.Path.{refl}
-use native.Mathlib.Omega.{arith}
 use Prim.Native.Nat.{◌≤◌, ◌-◌}
-use Rattle.field.proofs.TextLoops.{Laid, laid-start, laid-there, laid-zero, laid-blank, laid_end, past-text}
-use borrow.Author.Rules.{rules}
+use Rattle.field.proofs.TextLoops.{Laid}
 use Rattle.field.proofs.words.put_text.Given as goal
 
 abbrev pub invariant-loop-k : goal.invariant-loop-k

@@ -1,11 +1,9 @@
 -- `field::words::trimmed_len` meets its contract. The loop's invariant: what stands from k on is blank.
 -- Assumes nothing.
 use Prim.Native.Nat.{◌≤◌}
-use mathlib.Core.Path.{◌≡◌, refl, sym, ◌∙◌}
-use native.Mathlib.Omega.{arith}
+use mathlib.Core.Path.{◌≡◌}
 use lib.ListN.{length}
 use Rattle.field.specs.Texts.{trim_to}
-use Rattle.field.proofs.TextLoops.{trim-blank, trim-stop, length-trimmed}
 use Rattle.field.proofs.words.trimmed_len.Given as goal
 
 abbrev pub invariant-loop-k : goal.invariant-loop-k

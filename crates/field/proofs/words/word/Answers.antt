@@ -1,11 +1,11 @@
 -- `field::words::word` meets its contract. The loop's invariant: n is the number of the k bytes passed, and has room for the rest.
 -- Assumes nothing.
-use Prim.Native.Nat.{◌≤◌, ◌<◌, ◌-◌, ◌^◌}
-use mathlib.Core.Path.{◌≡◌, ◌∙◌}
+use Prim.Native.Nat.{◌<◌}
+use mathlib.Core.Path.{◌∙◌}
 use native.Mathlib.Nat.{pow-le-pow_right}
 use native.Mathlib.Omega.{arith}
 use lib.Dec.{lit<}
-use Rattle.field.specs.Texts.{padded, trimmed, base256}
+use Rattle.field.specs.Texts.{base256}
 use Rattle.field.proofs.TextLoops.{word_more, word_end, base-bound}
 use borrow.Author.Rules.{rules}
 use Rattle.field.proofs.words.word.Goals as goal
@@ -26,7 +26,7 @@ pub loop-k-smaller : goal.loop-k-smaller
 loop-k-smaller c = omega arith
 
 pub loop-k-preserved : goal.loop-k-preserved
-loop-k-preserved c =    let p = c.args.part.now in
+loop-k-preserved c = let p = c.args.part.now in
     let l = c.loop-k in (
       omega arith,
       word_more l.k p c.trimmed_len-len.ensures (c.widen.ensures ∙ c.padded_byte.ensures) (omega arith) l.invariant.1,

@@ -1,13 +1,8 @@
 -- `field::words::word` meets its contract. The loop's invariant: n is the number of the k bytes passed, and has room for the rest.
 -- Assumes nothing.
 use Prim.Native.Nat.{◌≤◌, ◌<◌, ◌-◌, ◌^◌}
-use mathlib.Core.Path.{◌≡◌, ◌∙◌}
-use native.Mathlib.Nat.{pow-le-pow_right}
-use native.Mathlib.Omega.{arith}
-use lib.Dec.{lit<}
+use mathlib.Core.Path.{◌≡◌}
 use Rattle.field.specs.Texts.{padded, trimmed, base256}
-use Rattle.field.proofs.TextLoops.{word_more, word_end, base-bound}
-use borrow.Author.Rules.{rules}
 use Rattle.field.proofs.words.word.Given as goal
 
 abbrev pub invariant-loop-k : goal.invariant-loop-k

@@ -1,7 +1,6 @@
 -- `fifties::group::check_file` meets its contract: the file's finding from its tally.
 -- Assumes nothing.
 use native.Mathlib.Omega.{arith}
-use borrow.Author.Rules.{rules}
 use Rattle.topology.specs.Rules.{fifty_reasons}
 use Rattle.fifties.proofs.FiftyTallies.{fifty-row, fifty-broken, fifty-fine}
 use Rattle.fifties.proofs.group.check_file.Goals as goal
@@ -14,7 +13,7 @@ overflow_add-i c = omega (arith, fifty-row _ _ c.requires c.if-t.true)
 
 pub returns-then-t : goal.returns-then-t
 unfolding fifty_reasons
-returns-then-t c =    fifty-broken _ _ c.requires c.if-t.true
+returns-then-t c = fifty-broken _ _ c.requires c.if-t.true
     (rw (← c.file_of.ensures, ← c.reason_in-reason.ensures) c.break_of.ensures)
 
 pub returns-else-t : goal.returns-else-t

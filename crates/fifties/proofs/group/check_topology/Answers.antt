@@ -1,12 +1,7 @@
 -- `fifties::group::check_topology` meets its contract. The loop's invariant: the files before number `n` give nothing.
 -- Assumes nothing.
-use Prim.Native.Nat.{◌+◌, ◌-◌}
-use mathlib.Core.List.{map}
-use Rattle.record.specs.Table.{file_count}
-use Rattle.record.specs.Files.{files_of, delivery_of}
-use Rattle.fifties.specs.machinery.Findings.{topology_in, topology_finding}
-use Rattle.keys.proofs.OverLaws.{Onward, files-start, files-more, files-here, files-end}
-use borrow.Author.Rules.{rules}
+use Rattle.fifties.specs.machinery.Findings.{topology_finding}
+use Rattle.keys.proofs.OverLaws.{files-start, files-more, files-here, files-end}
 use Rattle.fifties.proofs.group.check_topology.Goals as goal
 
 pub loop-n-init : goal.loop-n-init

@@ -4,9 +4,8 @@ use Prim.Native.Nat.{◌+◌, ◌-◌}
 use mathlib.Core.List.{map}
 use Rattle.record.specs.Table.{file_count}
 use Rattle.record.specs.Files.{files_of, delivery_of}
-use Rattle.fifties.specs.machinery.Findings.{topology_in, topology_finding}
-use Rattle.keys.proofs.OverLaws.{Onward, files-start, files-more, files-here, files-end}
-use borrow.Author.Rules.{rules}
+use Rattle.fifties.specs.machinery.Findings.{topology_in}
+use Rattle.keys.proofs.OverLaws.{Onward}
 use Rattle.fifties.proofs.group.check_topology.Given as goal
 
 abbrev pub invariant-loop-n : goal.invariant-loop-n

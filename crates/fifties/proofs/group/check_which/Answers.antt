@@ -1,7 +1,6 @@
 -- `fifties::group::check_which` meets its contract: a number that is a file's gives its file's finding.
 -- Assumes nothing.
 use mathlib.Core.Path.{◌∙◌}
-use borrow.Author.Rules.{rules}
 use Rattle.fifties.proofs.FiftyTallies.{own-tally}
 use Rattle.fifties.proofs.group.check_which.Goals as goal
 

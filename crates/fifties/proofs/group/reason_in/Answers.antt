@@ -1,7 +1,6 @@
 -- `fifties::group::reason_in` meets its contract: each number's reason, and 54's with the node's.
 -- Assumes nothing.
 use native.Mathlib.Omega.{arith}
-use borrow.Author.Rules.{rules}
 use Rattle.fifties.proofs.FiftyLaws.{index-under, reason-54, reason-else}
 use Rattle.fifties.proofs.group.reason_in.Goals as goal
 

@@ -1,6 +1,5 @@
 -- `fifties::group::tally_topology` meets its contract, by how many records the files have.
 -- Assumes nothing.
-use borrow.Author.Rules.{rules}
 use Rattle.fifties.proofs.group.tally_topology.Goals as goal
 
 pub tally_few-requires : goal.tally_few-requires

@@ -8,19 +8,18 @@ use Rattle.record.specs.Files.{files_of, delivery_of}
 use Rattle.topology.specs.Rules.{ends_tramo}
 use Rattle.topology.proofs.UsedLaws.{used-filled, used-then}
 use Rattle.fifties.proofs.FiftyTallies.{none-little, little, endless-in, starts-in, tramos-in}
-use borrow.Author.Rules.{rules}
 use Rattle.fifties.proofs.lines.tally_ends.Goals as goal
 
 pub mark_endless-requires : goal.mark_endless-requires
-mark_endless-requires c =    let p = c.requires in
+mark_endless-requires c = let p = c.requires in
     (omega (arith, p.6.count, p.6.long), p.9)
 
 pub with_marks-endless-requires : goal.with_marks-endless-requires
-with_marks-endless-requires c =    let p = c.requires in
+with_marks-endless-requires c = let p = c.requires in
     (none-little c.no_tally.ensures, omega (arith, c.mark_endless.ensures.long, p.9), omega (arith, p.6.count, p.6.small))
 
 pub mark_apart-requires : goal.mark_apart-requires
-mark_apart-requires c =    let p = c.requires in
+mark_apart-requires c = let p = c.requires in
     let v = c.file_of-vertice.ensures in
     let d = c.file_of-nodo.ensures in (
       p.0,
@@ -36,7 +35,7 @@ mark_apart-requires c =    let p = c.requires in
     )
 
 pub with_marks-started-requires : goal.with_marks-started-requires
-with_marks-started-requires c =    let p = c.requires in
+with_marks-started-requires c = let p = c.requires in
     let files = files_of (map (λ x. x.now) c.args.files) in (
       little (delivery_of files) Tramo _ 50 (min-le_left _ _) (omega arith)
           (endless-in files p.1 p.6 c.no_tally.ensures c.mark_endless.ensures c.with_marks-endless.ensures),
@@ -45,7 +44,7 @@ with_marks-started-requires c =    let p = c.requires in
     )
 
 pub mark_apart-requires-2 : goal.mark_apart-requires-2
-mark_apart-requires-2 c =    let p = c.requires in
+mark_apart-requires-2 c = let p = c.requires in
     let v = c.file_of-vertice.ensures in
     let d = c.file_of-nodo.ensures in (
       p.0,
@@ -61,7 +60,7 @@ mark_apart-requires-2 c =    let p = c.requires in
     )
 
 pub with_marks-requires : goal.with_marks-requires
-with_marks-requires c =    let p = c.requires in
+with_marks-requires c = let p = c.requires in
     let files = files_of (map (λ x. x.now) c.args.files) in
     let endless = endless-in files p.1 p.6 c.no_tally.ensures c.mark_endless.ensures c.with_marks-endless.ensures in (
       little (delivery_of files) Tramo _ 63 (min-le_left _ _) (omega arith)
@@ -74,11 +73,11 @@ pub shape_of-named : goal.shape_of-named
 shape_of-named c = omega (arith, c.named-2-1.given, c.named-1.given)
 
 pub shape_of-marks : goal.shape_of-marks
-shape_of-marks c =    omega (arith, c.mark_apart-2.ensures.marked.long, c.mark_apart.ensures.marked.long, c.mark_endless.ensures.long)
+shape_of-marks c = omega (arith, c.mark_apart-2.ensures.marked.long, c.mark_apart.ensures.marked.long, c.mark_endless.ensures.long)
 
 pub returns : goal.returns
 unfolding ends_tramo
-returns c =    let p = c.requires in
+returns c = let p = c.requires in
     let files = files_of (map (λ x. x.now) c.args.files) in
     let v = c.file_of-vertice.ensures in
     let d = c.file_of-nodo.ensures in

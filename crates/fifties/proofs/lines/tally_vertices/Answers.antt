@@ -4,7 +4,6 @@ use mathlib.Core.List.{map}
 use Rattle.record.specs.declared.kind.Kind.TheVariants.{Vertice}
 use Rattle.record.specs.Files.{files_of, delivery_of}
 use native.Mathlib.Omega.{arith}
-use borrow.Author.Rules.{rules}
 use Rattle.topology.proofs.OrderRules.{marks-lent, gap-lent, alone-lent}
 use Rattle.fifties.proofs.FiftyTallies.{none-little, little, gaps-tally, vertices-tally}
 use Rattle.fifties.proofs.lines.tally_vertices.Goals as goal

@@ -5,21 +5,20 @@ use native.Mathlib.Omega.{arith}
 use Rattle.record.specs.Files.{files_of}
 use Rattle.record.proofs.ColumnLaws.{read-fills}
 use Rattle.fifties.proofs.FiftyTallies.{none-little, objects-in}
-use borrow.Author.Rules.{rules}
 use Rattle.fifties.proofs.nodes.tally_objects.Goals as goal
 
 pub prepare-way-requires : goal.prepare-way-requires
-prepare-way-requires c =    let p = rw (← c.file_of-ob_lin.ensures) at c.requires in
+prepare-way-requires c = let p = rw (← c.file_of-ob_lin.ensures) at c.requires in
     let f = read-fills p.0 c.fill_names-n.ensures in
     (omega (arith, f.count, f.small), omega (arith, f.count, f.long), omega (arith, f.count, p.1))
 
 pub mark_idle_objects-requires : goal.mark_idle_objects-requires
-mark_idle_objects-requires c =    let p = rw (← c.file_of-ob_lin.ensures) at c.requires in
+mark_idle_objects-requires c = let p = rw (← c.file_of-ob_lin.ensures) at c.requires in
     let f = read-fills p.0 c.fill_names-n.ensures in
     (c.prepare-way.ensures, f, omega (arith, f.count, p.2), omega (arith, f.count, p.3), rw (← c.file_of-tramo.ensures) at c.requires.4)
 
 pub with_marks-requires : goal.with_marks-requires
-with_marks-requires c =    let p = rw (← c.file_of-ob_lin.ensures) at c.requires in
+with_marks-requires c = let p = rw (← c.file_of-ob_lin.ensures) at c.requires in
     let f = read-fills p.0 c.fill_names-n.ensures in
     (none-little c.no_tally.ensures, omega (arith, f.count, p.3, c.mark_idle_objects.ensures.long), omega (arith, f.count, f.small))
 
@@ -42,6 +41,6 @@ pub shape_of-marks : goal.shape_of-marks
 shape_of-marks c = omega (arith, c.marks-1.given)
 
 pub returns : goal.returns
-returns c =    let p = rw (← c.file_of-ob_lin.ensures) at c.requires in
+returns c = let p = rw (← c.file_of-ob_lin.ensures) at c.requires in
     let f = read-fills p.0 c.fill_names-n.ensures in
     objects-in (files_of (map (λ x. x.now) c.args.files)) c.file_of-ob_lin.ensures c.file_of-tramo.ensures f.count c.no_tally.ensures c.mark_idle_objects.ensures c.with_marks.ensures

@@ -1,12 +1,9 @@
 -- `grids::grid::column` meets its contract.
 -- Assumes nothing.
 use Prim.Native.Nat.{◌-◌, ◌≤◌, ◌<◌}
-use native.Mathlib.Omega.{arith}
-use borrow.Author.Rules.{rules}
 use Rattle.record.specs.Table.{file_count}
 use Rattle.judge.specs.Broken.{groups}
-use Rattle.grids.specs.machinery.Counted.{column_of}
-use Rattle.grids.proofs.FillLaws.{Filling, fill_start, fill-cell, fill-row, fill_end}
+use Rattle.grids.proofs.FillLaws.{Filling}
 use Rattle.grids.proofs.GridLaws.{column_cell}
 use Rattle.grids.proofs.grid.column.Given as goal
 

@@ -1,6 +1,5 @@
 -- `grids::grid::count_bytes` meets its contract.
 -- Assumes nothing.
-use borrow.Author.Rules.{rules}
 use Rattle.grids.proofs.grid.count_bytes.Goals as goal
 
 pub returns-then-shape : goal.returns-then-shape

@@ -1,6 +1,5 @@
 -- `grids::grid::count_bytes_of` meets its contract.
 -- Assumes nothing.
-use borrow.Author.Rules.{rules}
 use Rattle.record.specs.Table.{on_file}
 use Rattle.grids.proofs.grid.count_bytes_of.Goals as goal
 

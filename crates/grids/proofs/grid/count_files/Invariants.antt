@@ -1,16 +1,13 @@
 -- `grids::grid::count_files` meets its contract.
 -- Assumes nothing.
 use Prim.Native.Nat.{◌-◌, ◌≤◌}
-use mathlib.Core.Path.{◌≡◌, refl, ◌∙◌}
-use mathlib.Core.List.{[], map}
-use native.Mathlib.Omega.{arith}
-use lib.ListN.{length, take, length-set}
-use borrow.Author.Rules.{rules}
+use mathlib.Core.Path.{◌≡◌}
+use mathlib.Core.List.{map}
+use lib.ListN.{length, take}
 use Rattle.laws.specs.Row.{row}
-use Rattle.laws.proofs.RowLaws.{row-start, row_more, row-end}
 use Rattle.record.specs.Table.{file_count}
 use Rattle.record.specs.Files.{files_of}
-use Rattle.grids.proofs.GridLaws.{bytes_no, bytes-turn, bytes-row}
+use Rattle.grids.proofs.GridLaws.{bytes_no}
 use Rattle.grids.proofs.grid.count_files.Given as goal
 
 abbrev pub invariant-loop-i : goal.invariant-loop-i

@@ -2,7 +2,6 @@
 -- Assumes nothing.
 use mathlib.Core.List.{map}
 use mathlib.Core.Path.{ap, ◌∙◌}
-use borrow.Author.Rules.{rules}
 use Rattle.index.specs.declared.tally.Tally.{Tally}
 use Rattle.keys.specs.machinery.Cells.{key_tallies}
 use Rattle.fifties.specs.machinery.Cells.{fifty_tallies}

@@ -1,15 +1,11 @@
 -- `grids::grid::has_any` meets its contract.
 -- Assumes nothing.
 use Prim.Native.Nat.{◌-◌, ◌≤◌}
-use mathlib.Core.Path.{◌≡◌, sym}
+use mathlib.Core.Path.{◌≡◌}
 use mathlib.Core.Bool.{false}
-use native.Mathlib.Omega.{arith}
 use lib.Dec.{ltb}
 use lib.ListN.{get_or}
-use borrow.Author.Tests.{lt-ltb, le-ltb}
-use borrow.Author.Rules.{rules}
 use Rattle.laws.specs.Find.{any}
-use Rattle.laws.proofs.FindLaws.{any-start, any_next, any-end, any-true}
 use Rattle.record.specs.Table.{file_count}
 use Rattle.grids.proofs.grid.has_any.Given as goal
 

@@ -1,15 +1,11 @@
 -- `grids::grid::many_of` meets its contract.
 -- Assumes nothing.
 use Prim.Native.Nat.{◌-◌, ◌≤◌}
-use mathlib.Core.Path.{◌≡◌, refl, ◌∙◌}
-use mathlib.Core.List.{[]}
-use native.Mathlib.Omega.{arith}
-use lib.ListN.{length, take, length-set}
-use borrow.Author.Rules.{rules}
+use mathlib.Core.Path.{◌≡◌}
+use lib.ListN.{length, take}
 use Rattle.laws.specs.Row.{row}
-use Rattle.laws.proofs.RowLaws.{row-start, row_more, row-end}
 use Rattle.record.specs.Table.{file_count}
-use Rattle.grids.proofs.GridLaws.{many_at, many-row}
+use Rattle.grids.proofs.GridLaws.{many_at}
 use Rattle.grids.proofs.grid.many_of.Given as goal
 
 abbrev pub invariant-loop-i : goal.invariant-loop-i

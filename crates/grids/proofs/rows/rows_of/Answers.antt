@@ -1,13 +1,9 @@
 -- `grids::rows::rows_of` meets its contract.
 -- Assumes nothing.
-use Prim.Native.Nat.{◌-◌, ◌≤◌, ◌<◌}
 use mathlib.Core.Path.{refl}
 use native.Mathlib.Omega.{arith}
-use borrow.Author.Rules.{rules}
-use Rattle.record.specs.Table.{file_count}
-use Rattle.judge.specs.Broken.{groups}
 use Rattle.grids.specs.Sum.{cell_at}
-use Rattle.grids.proofs.RowsLaws.{Writing, writing_start, writing_more, writing-row, writing-end}
+use Rattle.grids.proofs.RowsLaws.{writing_start, writing_more, writing-row, writing-end}
 use Rattle.grids.proofs.rows.rows_of.Goals as goal
 
 pub loop-i-init : goal.loop-i-init
@@ -18,11 +14,11 @@ loop-g-init c = (omega (arith, c.loop-i-test.true), omega arith, c.loop-i.invari
 
 pub loop-g-preserved : goal.loop-g-preserved
 unfolding cell_at
-loop-g-preserved c =    let l = c.loop-g in
+loop-g-preserved c = let l = c.loop-g in
     (l.invariant.0, omega (arith, c.loop-g-test.true), writing_more l.invariant.2 refl c.put_count-at.ensures)
 
 pub loop-i-preserved : goal.loop-i-preserved
-loop-i-preserved c =    let l = c.loop-g in
+loop-i-preserved c = let l = c.loop-g in
     (omega (arith, l.invariant.0), writing-row l.invariant.1 c.loop-g-test.false l.invariant.2)
 
 pub returns : goal.returns

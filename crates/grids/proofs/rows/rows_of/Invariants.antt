@@ -1,13 +1,9 @@
 -- `grids::rows::rows_of` meets its contract.
 -- Assumes nothing.
 use Prim.Native.Nat.{◌-◌, ◌≤◌, ◌<◌}
-use mathlib.Core.Path.{refl}
-use native.Mathlib.Omega.{arith}
-use borrow.Author.Rules.{rules}
 use Rattle.record.specs.Table.{file_count}
 use Rattle.judge.specs.Broken.{groups}
-use Rattle.grids.specs.Sum.{cell_at}
-use Rattle.grids.proofs.RowsLaws.{Writing, writing_start, writing_more, writing-row, writing-end}
+use Rattle.grids.proofs.RowsLaws.{Writing}
 use Rattle.grids.proofs.rows.rows_of.Given as goal
 
 abbrev pub invariant-loop-g : goal.invariant-loop-g

@@ -1,14 +1,9 @@
 -- `grids::rows::rows_with` meets its contract.
 -- Assumes nothing.
 use Prim.Native.Nat.{◌-◌, ◌≤◌}
-use mathlib.Core.Path.{◌≡◌, refl, ap}
-use native.Mathlib.Omega.{arith}
 use lib.ListN.{get_or, replicate}
-use borrow.Author.Rules.{rules}
-use Rattle.judge.specs.declared.line.Line.{Line}
 use Rattle.grids.specs.Rows.{rows_room}
-use Rattle.laws.proofs.PutLaws.{Putting, putting-start, putting-more, putting-end}
-use Rattle.grids.proofs.RowsLaws.{big-copied}
+use Rattle.laws.proofs.PutLaws.{Putting}
 use Rattle.grids.proofs.rows.rows_with.Given as goal
 
 abbrev pub invariant-loop-i : goal.invariant-loop-i

@@ -1,7 +1,6 @@
 -- `grids::sum::add` meets its contract.
 -- Assumes nothing.
 use mathlib.Core.Path.{sym, ◌∙◌}
-use borrow.Author.Rules.{rules}
 use Rattle.grids.specs.Sum.{add_of}
 use Rattle.grids.proofs.sum.add.Goals as goal
 

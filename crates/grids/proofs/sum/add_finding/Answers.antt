@@ -1,6 +1,5 @@
 -- `grids::sum::add_finding` meets its contract.
 -- Assumes nothing.
-use borrow.Author.Rules.{rules}
 use Rattle.grids.specs.Sum.{add_finding}
 use Rattle.grids.proofs.sum.add_finding.Goals as goal
 

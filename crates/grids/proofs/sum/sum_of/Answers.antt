@@ -1,14 +1,10 @@
 -- `grids::sum::sum_of` meets its contract.
 -- Assumes nothing.
-use Prim.Native.Nat.{◌-◌, ◌≤◌, ◌<◌}
 use mathlib.Core.Path.{refl}
 use native.Mathlib.Omega.{arith}
-use borrow.Author.Rules.{rules}
-use Rattle.record.specs.Table.{file_count}
-use Rattle.judge.specs.Broken.{groups}
 use Rattle.grids.specs.Sum.{cell_at, plus}
-use Rattle.grids.proofs.FillLaws.{Filling, fill_start, fill-cell, fill-row, fill_end}
-use Rattle.grids.proofs.SumLaws.{sum_cell, fits-at}
+use Rattle.grids.proofs.FillLaws.{fill_start, fill-cell, fill-row, fill_end}
+use Rattle.grids.proofs.SumLaws.{fits-at}
 use Rattle.grids.proofs.sum.sum_of.Goals as goal
 
 pub loop-i-init : goal.loop-i-init
@@ -19,16 +15,16 @@ loop-g-init c = (omega (arith, c.loop-i-test.true), omega arith, c.loop-i.invari
 
 pub overflow_add-sum : goal.overflow_add-sum
 unfolding cell_at
-overflow_add-sum c =    let l = c.loop-g in
+overflow_add-sum c = let l = c.loop-g in
     omega (arith, fits-at c.args.a c.args.b _ l.g c.requires l.invariant.0 (omega (arith, c.loop-g-test.true)))
 
 pub loop-g-preserved : goal.loop-g-preserved
 unfolding cell_at
-loop-g-preserved c =    let l = c.loop-g in
+loop-g-preserved c = let l = c.loop-g in
     (l.invariant.0, omega (arith, c.loop-g-test.true), fill-cell l.invariant.0 (omega (arith, c.loop-g-test.true)) l.invariant.2 refl)
 
 pub loop-i-preserved : goal.loop-i-preserved
-loop-i-preserved c =    let l = c.loop-g in
+loop-i-preserved c = let l = c.loop-g in
     (omega (arith, l.invariant.0), fill-row c.loop-g-test.false l.invariant.2)
 
 pub returns : goal.returns

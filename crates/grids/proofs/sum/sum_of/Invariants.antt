@@ -1,14 +1,10 @@
 -- `grids::sum::sum_of` meets its contract.
 -- Assumes nothing.
 use Prim.Native.Nat.{◌-◌, ◌≤◌, ◌<◌}
-use mathlib.Core.Path.{refl}
-use native.Mathlib.Omega.{arith}
-use borrow.Author.Rules.{rules}
 use Rattle.record.specs.Table.{file_count}
 use Rattle.judge.specs.Broken.{groups}
-use Rattle.grids.specs.Sum.{cell_at, plus}
-use Rattle.grids.proofs.FillLaws.{Filling, fill_start, fill-cell, fill-row, fill_end}
-use Rattle.grids.proofs.SumLaws.{sum_cell, fits-at}
+use Rattle.grids.proofs.FillLaws.{Filling}
+use Rattle.grids.proofs.SumLaws.{sum_cell}
 use Rattle.grids.proofs.sum.sum_of.Given as goal
 
 abbrev pub invariant-loop-g : goal.invariant-loop-g

@@ -1,17 +1,11 @@
 -- `grids::sum::too_many` meets its contract.
 -- Assumes nothing.
-use Prim.Native.Nat.{◌-◌, ◌≤◌, ◌<◌}
-use mathlib.Core.Path.{◌≡◌, sym, ◌∙◌}
-use mathlib.Core.Bool.{false}
+use mathlib.Core.Path.{sym, ◌∙◌}
 use native.Mathlib.Omega.{arith}
 use borrow.Author.Tests.{ltb-true}
-use borrow.Author.Rules.{rules}
-use Rattle.laws.specs.Find.{any}
 use Rattle.laws.proofs.FindLaws.{any-start, any_next, any-end}
-use Rattle.record.specs.Table.{file_count}
-use Rattle.judge.specs.Broken.{groups}
 use Rattle.grids.specs.Sum.{most_in_cell, cell_at, too_many}
-use Rattle.grids.proofs.SumLaws.{over_at, over-is}
+use Rattle.grids.proofs.SumLaws.{over-is}
 use Rattle.grids.proofs.sum.too_many.Goals as goal
 
 pub loop-i-init : goal.loop-i-init
@@ -22,16 +16,16 @@ loop-g-init c = (omega (arith, c.loop-i-test.true), omega arith, any-start _)
 
 pub returns-then-is_over : goal.returns-then-is_over
 unfolding cell_at
-returns-then-is_over c =    let l = c.loop-g in
+returns-then-is_over c = let l = c.loop-g in
     sym (over-is c.args.a c.args.b _ l.g l.invariant.0 (omega (arith, c.loop-g-test.true)) (ltb-true most_in_cell _ (sym c.is_over.ensures ∙ c.if-is_over.true)))
 
 pub loop-g-preserved : goal.loop-g-preserved
 unfolding cell_at
-loop-g-preserved c =    let l = c.loop-g in
+loop-g-preserved c = let l = c.loop-g in
     (l.invariant.0, omega (arith, c.loop-g-test.true), any_next _ l.invariant.2 (sym c.is_over.ensures ∙ c.if-is_over.false))
 
 pub loop-i-preserved : goal.loop-i-preserved
-loop-i-preserved c =    let l = c.loop-g in
+loop-i-preserved c = let l = c.loop-g in
     let o = c.loop-i in
     (omega (arith, l.invariant.0), any_next _ o.invariant.1 (any-end _ l.invariant.1 c.loop-g-test.false l.invariant.2))
 

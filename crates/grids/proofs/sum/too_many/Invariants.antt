@@ -1,17 +1,12 @@
 -- `grids::sum::too_many` meets its contract.
 -- Assumes nothing.
 use Prim.Native.Nat.{◌-◌, ◌≤◌, ◌<◌}
-use mathlib.Core.Path.{◌≡◌, sym, ◌∙◌}
+use mathlib.Core.Path.{◌≡◌}
 use mathlib.Core.Bool.{false}
-use native.Mathlib.Omega.{arith}
-use borrow.Author.Tests.{ltb-true}
-use borrow.Author.Rules.{rules}
 use Rattle.laws.specs.Find.{any}
-use Rattle.laws.proofs.FindLaws.{any-start, any_next, any-end}
 use Rattle.record.specs.Table.{file_count}
 use Rattle.judge.specs.Broken.{groups}
-use Rattle.grids.specs.Sum.{most_in_cell, cell_at, too_many}
-use Rattle.grids.proofs.SumLaws.{over_at, over-is}
+use Rattle.grids.proofs.SumLaws.{over_at}
 use Rattle.grids.proofs.sum.too_many.Given as goal
 
 abbrev pub invariant-loop-g : goal.invariant-loop-g

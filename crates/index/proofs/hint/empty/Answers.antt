@@ -1,9 +1,7 @@
 -- `index::hint::empty` meets its contract. The loop's invariant: the first `i` places are empty.
 -- Assumes nothing.
-use Prim.Native.Nat.{◌-◌}
 use native.Mathlib.Omega.{arith}
-use borrow.Author.Rules.{rules}
-use Rattle.index.proofs.HintLaws.{Emptied, emptied-none, emptied-more, emptied-end}
+use Rattle.index.proofs.HintLaws.{emptied-none, emptied-more, emptied-end}
 use Rattle.index.proofs.hint.empty.Goals as goal
 
 pub loop-i-init : goal.loop-i-init

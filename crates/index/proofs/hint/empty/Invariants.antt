@@ -1,9 +1,7 @@
 -- `index::hint::empty` meets its contract. The loop's invariant: the first `i` places are empty.
 -- Assumes nothing.
 use Prim.Native.Nat.{◌-◌}
-use native.Mathlib.Omega.{arith}
-use borrow.Author.Rules.{rules}
-use Rattle.index.proofs.HintLaws.{Emptied, emptied-none, emptied-more, emptied-end}
+use Rattle.index.proofs.HintLaws.{Emptied}
 use Rattle.index.proofs.hint.empty.Given as goal
 
 abbrev pub invariant-loop-i : goal.invariant-loop-i

@@ -1,7 +1,6 @@
 -- `index::hint::guess` meets its contract. A record is given only after its number and its key were tested, as the look-up by definition tests them.
 -- Assumes nothing.
 use Rattle.index.proofs.HintLaws.{guessed-at, guessed-nothing, guess-pointed, pointed-empty, pointed-past, pointed-short, pointed-other, pointed-at}
-use borrow.Author.Rules.{rules}
 use native.Mathlib.Omega.{arith}
 use Rattle.index.proofs.hint.guess.Goals as goal
 

@@ -1,12 +1,9 @@
 -- `index::hint::lay` meets its contract. The loop's invariant: each of the first `i` keys has its place.
 -- Assumes nothing.
-use Prim.Native.Nat.{◌-◌}
-use mathlib.Core.Path.{◌≡◌, refl, sym, ◌∙◌}
+use mathlib.Core.Path.{refl, sym, ◌∙◌}
 use native.Mathlib.Omega.{arith}
-use lib.ListN.{length}
-use borrow.Author.Rules.{rules}
 use Rattle.laws.proofs.FindLaws.{true-false}
-use Rattle.index.proofs.HintLaws.{Laid, laid_none, laid_more, laid-strays, put-long, inside, none-strays}
+use Rattle.index.proofs.HintLaws.{laid_none, laid_more, laid-strays, put-long, inside, none-strays}
 use Rattle.index.proofs.WayLaws.{laid-complete}
 use Rattle.index.proofs.hint.lay.Goals as goal
 
@@ -26,7 +23,7 @@ pub put-fresh-requires : goal.put-fresh-requires
 put-fresh-requires c = (inside _ _ _ c.if-hints-at.false).0
 
 pub loop-i-preserved : goal.loop-i-preserved
-loop-i-preserved c =    let l = c.loop-i in
+loop-i-preserved c = let l = c.loop-i in
     let p = c.put-fresh.ensures in
     let w = inside _ _ _ c.if-hints-at.false in (
       put-long p ∙ l.invariant.0,
@@ -37,4 +34,4 @@ pub shape_of-hints : goal.shape_of-hints
 shape_of-hints c = c.loop-i.invariant.0
 
 pub returns : goal.returns
-returns c =    let m = c.loop-i.invariant.1 in record { complete = λ e. laid-complete m c.loop-i-test.false c.requires.0; apart = λ e. none-strays _ _ _ (laid-strays m c.loop-i-test.false e) }
+returns c = let m = c.loop-i.invariant.1 in record { complete = λ e. laid-complete m c.loop-i-test.false c.requires.0; apart = λ e. none-strays _ _ _ (laid-strays m c.loop-i-test.false e) }

@@ -1,7 +1,6 @@
 -- `index::hint::put` meets its contract: the place was empty and has the hint, or all is as it was.
 -- Assumes nothing.
 use mathlib.Core.Path.{refl, sym}
-use borrow.Author.Rules.{rules}
 use Rattle.laws.proofs.FindLaws.{true-false}
 use Rattle.index.proofs.hint.put.Goals as goal
 

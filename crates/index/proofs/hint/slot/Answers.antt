@@ -1,11 +1,7 @@
 -- `index::hint::slot` meets its contract. The loop's invariant: what is left of the look-up ends where the whole does.
 -- Assumes nothing.
-use Prim.Native.Nat.{◌<◌, ◌≤◌, ◌-◌}
-use mathlib.Core.Path.{◌≡◌}
 use native.Mathlib.Omega.{arith}
-use Rattle.index.specs.Hint.{probe, slot_of}
 use Rattle.index.proofs.HintLaws.{probe_start, probe-empty, probe_found, probe-next, probe-none}
-use borrow.Author.Rules.{rules}
 use Rattle.index.proofs.hint.slot.Goals as goal
 
 pub loop-s-init : goal.loop-s-init
@@ -15,7 +11,7 @@ pub returns-then-h-eq0 : goal.returns-then-h-eq0
 returns-then-h-eq0 c = probe-empty _ _ _ _ _ _ c.hint_at-h.ensures _ (omega arith) c.if-h-eq0.true c.loop-s.invariant.2
 
 pub returns-then-key_of-x : goal.returns-then-key_of-x
-returns-then-key_of-x c =    probe_found _ _ _ _ _ _ c.hint_at-h.ensures _ (omega arith) c.if-h-eq0.false c.key_of.ensures c.if-key_of-x.true
+returns-then-key_of-x c = probe_found _ _ _ _ _ _ c.hint_at-h.ensures _ (omega arith) c.if-h-eq0.false c.key_of.ensures c.if-key_of-x.true
     c.loop-s.invariant.2
 
 pub loop-s-preserved : goal.loop-s-preserved

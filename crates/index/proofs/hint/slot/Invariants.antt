@@ -2,10 +2,7 @@
 -- Assumes nothing.
 use Prim.Native.Nat.{◌<◌, ◌≤◌, ◌-◌}
 use mathlib.Core.Path.{◌≡◌}
-use native.Mathlib.Omega.{arith}
 use Rattle.index.specs.Hint.{probe, slot_of}
-use Rattle.index.proofs.HintLaws.{probe_start, probe-empty, probe_found, probe-next, probe-none}
-use borrow.Author.Rules.{rules}
 use Rattle.index.proofs.hint.slot.Given as goal
 
 abbrev pub invariant-loop-s : goal.invariant-loop-s

@@ -3,7 +3,6 @@
 use native.Mathlib.Omega.{arith}
 use Rattle.index.proofs.LookLaws.{last-below, sought-at, sought-other, sought-nothing}
 use Rattle.index.proofs.WayLaws.{find-nothing, find_at, find-other}
-use borrow.Author.Rules.{rules}
 use Rattle.index.proofs.look.find.Goals as goal
 
 pub returns-in_default : goal.returns-in_default

@@ -2,7 +2,6 @@
 -- Assumes nothing.
 use mathlib.Core.Path.{sym}
 use lib.ListN.{get_or-eq_default}
-use borrow.Author.Rules.{rules}
 use Rattle.index.proofs.look.key_of.Goals as goal
 
 pub returns-else-r-keys : goal.returns-else-r-keys

@@ -3,7 +3,6 @@
 use native.Mathlib.Omega.{arith}
 use Rattle.index.proofs.LookLaws.{last-nothing, last-at}
 use Rattle.index.proofs.WayLaws.{last-at-none, last-at-some}
-use borrow.Author.Rules.{rules}
 use Rattle.index.proofs.look.last_in.Goals as goal
 
 pub returns-then-c-eq0 : goal.returns-then-c-eq0

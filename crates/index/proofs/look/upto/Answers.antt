@@ -1,12 +1,10 @@
 -- `index::look::upto` meets its contract. The loop's invariant: the answer lies between `lo` and `hi` (`Bracket`).
 -- Assumes nothing.
 use Rattle.index.proofs.OrderLaws.{key_in_lem}
-use Rattle.index.specs.Look.{Bracket}
 use Rattle.index.proofs.LookLaws.{bracket-start, bracket-up, bracket-down, bracket-end}
 use Rattle.index.proofs.WayLaws.{bracket-upto}
 use Prim.Native.Nat.{◌-◌, ◌+◌, ◌/◌}
 use native.Mathlib.Omega.{arith}
-use borrow.Author.Rules.{rules}
 use Rattle.index.proofs.look.upto.Goals as goal
 
 pub loop-lo-init : goal.loop-lo-init

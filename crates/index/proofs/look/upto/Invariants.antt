@@ -1,12 +1,7 @@
 -- `index::look::upto` meets its contract. The loop's invariant: the answer lies between `lo` and `hi` (`Bracket`).
 -- Assumes nothing.
-use Rattle.index.proofs.OrderLaws.{key_in_lem}
 use Rattle.index.specs.Look.{Bracket}
-use Rattle.index.proofs.LookLaws.{bracket-start, bracket-up, bracket-down, bracket-end}
-use Rattle.index.proofs.WayLaws.{bracket-upto}
-use Prim.Native.Nat.{◌-◌, ◌+◌, ◌/◌}
-use native.Mathlib.Omega.{arith}
-use borrow.Author.Rules.{rules}
+use Prim.Native.Nat.{◌-◌}
 use Rattle.index.proofs.look.upto.Given as goal
 
 abbrev pub invariant-loop-lo : goal.invariant-loop-lo

@@ -1,11 +1,7 @@
 -- `index::marks::clear` meets its contract. The loop's invariant: the first `i` are not marked.
 -- Assumes nothing.
-use Prim.Native.Nat.{◌-◌}
-use mathlib.Core.Bool.{false}
 use mathlib.Core.Path.{refl}
-use Rattle.index.specs.Marks.{Marked}
 use Rattle.index.proofs.MarkLaws.{marked_start, marked_more, marked-end}
-use borrow.Author.Rules.{rules}
 use native.Mathlib.Omega.{arith}
 use Rattle.index.proofs.marks.clear.Goals as goal
 

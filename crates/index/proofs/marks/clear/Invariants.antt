@@ -2,11 +2,7 @@
 -- Assumes nothing.
 use Prim.Native.Nat.{◌-◌}
 use mathlib.Core.Bool.{false}
-use mathlib.Core.Path.{refl}
 use Rattle.index.specs.Marks.{Marked}
-use Rattle.index.proofs.MarkLaws.{marked_start, marked_more, marked-end}
-use borrow.Author.Rules.{rules}
-use native.Mathlib.Omega.{arith}
 use Rattle.index.proofs.marks.clear.Given as goal
 
 abbrev pub invariant-loop-i : goal.invariant-loop-i

@@ -1,12 +1,8 @@
 -- `index::marks::first_marked` meets its contract. The loop's invariant: none of the first `i` is marked.
 -- Assumes nothing.
 use Prim.Native.Nat.{◌-◌}
-use mathlib.Core.Path.{refl}
-use borrow.Author.Tests.{eq-eqb, ne_eqb}
 use Rattle.index.specs.Marks.{is_marked}
-use Rattle.index.proofs.FoundLaws.{Passed, found-start, found-more, found_here, found-end}
-use borrow.Author.Rules.{rules}
-use native.Mathlib.Omega.{arith}
+use Rattle.index.proofs.FoundLaws.{Passed}
 use Rattle.index.proofs.marks.first_marked.Given as goal
 
 abbrev pub invariant-loop-i : goal.invariant-loop-i

@@ -1,10 +1,8 @@
 -- `index::numbers::fill_numbers` meets its contract. The loop's invariant: the first `i` keys have their numbers.
 -- Assumes nothing.
-use Prim.Native.Nat.{◌-◌}
-use Rattle.index.proofs.NumberLaws.{Numbers, numbers-start, numbers_more, numbers-stand}
-use mathlib.Core.Path.{◌≡◌, refl}
-use lib.ListN.{length, length-set}
-use borrow.Author.Rules.{rules}
+use Rattle.index.proofs.NumberLaws.{numbers-start, numbers_more, numbers-stand}
+use mathlib.Core.Path.{refl}
+use lib.ListN.{length-set}
 use native.Mathlib.Omega.{arith}
 use Rattle.index.proofs.numbers.fill_numbers.Goals as goal
 

@@ -1,11 +1,9 @@
 -- `index::numbers::fill_numbers` meets its contract. The loop's invariant: the first `i` keys have their numbers.
 -- Assumes nothing.
 use Prim.Native.Nat.{◌-◌}
-use Rattle.index.proofs.NumberLaws.{Numbers, numbers-start, numbers_more, numbers-stand}
-use mathlib.Core.Path.{◌≡◌, refl}
-use lib.ListN.{length, length-set}
-use borrow.Author.Rules.{rules}
-use native.Mathlib.Omega.{arith}
+use Rattle.index.proofs.NumberLaws.{Numbers}
+use mathlib.Core.Path.{◌≡◌}
+use lib.ListN.{length}
 use Rattle.index.proofs.numbers.fill_numbers.Given as goal
 
 abbrev pub invariant-loop-i : goal.invariant-loop-i

@@ -1,7 +1,6 @@
 -- `index::numbers::mark_repeats` meets its contract. Keys that are apart are none an earlier one.
 -- Assumes nothing.
 use Rattle.index.proofs.NumberLaws.{repeats-none}
-use borrow.Author.Rules.{rules}
 use Rattle.index.proofs.numbers.mark_repeats.Goals as goal
 
 pub returns-then-way : goal.returns-then-way

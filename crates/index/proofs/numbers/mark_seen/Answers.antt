@@ -1,15 +1,9 @@
 -- `index::numbers::mark_seen` meets its contract. The loop's invariant: the first `i` are marked, and the records that they find seen.
 -- Assumes nothing.
-use Prim.Native.Nat.{◌-◌}
 use mathlib.Core.Path.{refl}
-use lib.ListN.{get_or}
 use native.Mathlib.Omega.{arith}
-use Rattle.laws.specs.Find.{names}
-use Rattle.index.specs.Keys.{listed}
-use Rattle.index.specs.Marks.{Marked}
 use Rattle.index.proofs.MarkLaws.{marked_start, marked_more, marked-end}
-use Rattle.index.proofs.NumberLaws.{Seen, seen_start, seen-within, seen_more, seen_at}
-use borrow.Author.Rules.{rules}
+use Rattle.index.proofs.NumberLaws.{seen_start, seen-within, seen_more, seen_at}
 use Rattle.index.proofs.numbers.mark_seen.Goals as goal
 
 pub loop-i-init : goal.loop-i-init
@@ -34,7 +28,7 @@ pub bounds-seen-x-in-loop-i : goal.bounds-seen-x-in-loop-i
 bounds-seen-x-in-loop-i c = seen-within _ _ _ _ _ c.loop-i-test.true c.requires.0.small _ c.look-found.ensures.sought c.look-found.ensures.same c.or_zero-x.ensures
 
 pub loop-i-preserved : goal.loop-i-preserved
-loop-i-preserved c =    let found = c.look-found.ensures in
+loop-i-preserved c = let found = c.look-found.ensures in
     let l = c.loop-i in
     let under = c.loop-i-test.true in
     let said = c.or_zero-x.ensures in (

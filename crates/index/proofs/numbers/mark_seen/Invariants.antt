@@ -1,15 +1,11 @@
 -- `index::numbers::mark_seen` meets its contract. The loop's invariant: the first `i` are marked, and the records that they find seen.
 -- Assumes nothing.
 use Prim.Native.Nat.{◌-◌}
-use mathlib.Core.Path.{refl}
 use lib.ListN.{get_or}
-use native.Mathlib.Omega.{arith}
 use Rattle.laws.specs.Find.{names}
 use Rattle.index.specs.Keys.{listed}
 use Rattle.index.specs.Marks.{Marked}
-use Rattle.index.proofs.MarkLaws.{marked_start, marked_more, marked-end}
-use Rattle.index.proofs.NumberLaws.{Seen, seen_start, seen-within, seen_more, seen_at}
-use borrow.Author.Rules.{rules}
+use Rattle.index.proofs.NumberLaws.{Seen}
 use Rattle.index.proofs.numbers.mark_seen.Given as goal
 
 abbrev pub invariant-loop-i : goal.invariant-loop-i

@@ -1,10 +1,8 @@
 -- `index::pairs::join` meets its contract. The loop's invariant: the first `i` are joined, the rest are as they were.
 -- Assumes nothing.
-use Prim.Native.Nat.{◌-◌}
-use mathlib.Core.Path.{◌≡◌, refl}
-use lib.ListN.{length, length-set}
-use Rattle.index.proofs.PairLaws.{Joining, joining-start, joining-more, joining-end, joining-narrow}
-use borrow.Author.Rules.{rules}
+use mathlib.Core.Path.{refl}
+use lib.ListN.{length-set}
+use Rattle.index.proofs.PairLaws.{joining-start, joining-more, joining-end, joining-narrow}
 use native.Mathlib.Omega.{arith}
 use Rattle.index.proofs.pairs.join.Goals as goal
 

@@ -1,11 +1,9 @@
 -- `index::pairs::join` meets its contract. The loop's invariant: the first `i` are joined, the rest are as they were.
 -- Assumes nothing.
 use Prim.Native.Nat.{◌-◌}
-use mathlib.Core.Path.{◌≡◌, refl}
-use lib.ListN.{length, length-set}
-use Rattle.index.proofs.PairLaws.{Joining, joining-start, joining-more, joining-end, joining-narrow}
-use borrow.Author.Rules.{rules}
-use native.Mathlib.Omega.{arith}
+use mathlib.Core.Path.{◌≡◌}
+use lib.ListN.{length}
+use Rattle.index.proofs.PairLaws.{Joining}
 use Rattle.index.proofs.pairs.join.Given as goal
 
 abbrev pub invariant-loop-i : goal.invariant-loop-i

@@ -1,11 +1,8 @@
 -- `index::tally::count_marked` meets its contract. The loop's invariant: `many` of the first `i` are marked.
 -- Assumes nothing.
 use Prim.Native.Nat.{◌-◌, ◌≤◌}
-use mathlib.Core.Path.{◌≡◌, refl}
-use native.Mathlib.Omega.{arith}
-use borrow.Author.Rules.{rules}
+use mathlib.Core.Path.{◌≡◌}
 use Rattle.laws.specs.Count.{how_many}
-use Rattle.laws.proofs.CountLaws.{count-more, count-end}
 use Rattle.index.specs.Marks.{is_marked}
 use Rattle.index.proofs.tally.count_marked.Given as goal
 

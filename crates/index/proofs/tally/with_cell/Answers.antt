@@ -1,6 +1,5 @@
 -- `index::tally::with_cell` meets its contract: a record found replaces the first unless that is no later.
 -- Assumes nothing.
-use borrow.Author.Rules.{rules}
 use Rattle.index.proofs.tally.with_cell.Goals as goal
 
 pub returns-in-Nothing : goal.returns-in-Nothing

@@ -1,6 +1,5 @@
 -- `index::tally::with_marks` meets its contract: the first that is marked, and how many are.
 -- Assumes nothing.
-use borrow.Author.Rules.{rules}
 use Rattle.index.proofs.tally.with_marks.Goals as goal
 
 pub returns : goal.returns

@@ -1,10 +1,9 @@
 -- `index::twice::distinct` meets its contract. The loop's invariant: the neighbours before place `i` differ (`Apart`).
 -- Assumes nothing.
 use Rattle.index.proofs.OrderLaws.{key_in_lem}
-use Rattle.index.proofs.TwiceLaws.{Apart, apart-start, apart_more, repeat-here, repeat-none}
+use Rattle.index.proofs.TwiceLaws.{apart-start, apart_more, repeat-here, repeat-none}
 use Prim.Native.Nat.{◌-◌}
 use native.Mathlib.Omega.{arith}
-use borrow.Author.Rules.{rules}
 use Rattle.index.proofs.twice.distinct.Goals as goal
 
 pub loop-i-init : goal.loop-i-init

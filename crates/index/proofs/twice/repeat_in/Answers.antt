@@ -1,17 +1,10 @@
 -- `index::twice::repeat_in` meets its contract. The invariants: none of the first `r` equals an earlier one; and none of the first `e` equals the key in hand.
 -- Assumes nothing.
-use Rattle.laws.specs.Find.{first_index}
 use Rattle.laws.proofs.FindLaws.{index-start, index-more, index-here, index-end, any_here}
-use Rattle.index.specs.declared.Found.TheVariants.{Nothing}
-use Rattle.index.specs.Keys.{found_of, first_duplicate}
+use Rattle.index.specs.Keys.{found_of}
 use Rattle.index.proofs.TwiceLaws.{scanned, span-under}
-use Prim.Native.Nat.{◌≤◌, ◌-◌}
-use mathlib.Core.Path.{◌≡◌, refl, sym, ap, ◌∙◌}
-use mathlib.Core.Option.{none}
+use mathlib.Core.Path.{refl, sym, ap, ◌∙◌}
 use native.Mathlib.Omega.{arith}
-use lib.Dec.{eqb}
-use lib.ListN.{get_or}
-use borrow.Author.Rules.{rules}
 use borrow.Author.Tests.{eq-eqb, ne_eqb}
 use Rattle.index.proofs.twice.repeat_in.Goals as goal
 

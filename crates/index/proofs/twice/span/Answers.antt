@@ -1,7 +1,6 @@
 -- `index::twice::span` meets its contract. A mark says which.
 -- Assumes nothing.
 use borrow.Author.Tests.{eq-eqb, ne_eqb}
-use borrow.Author.Rules.{rules}
 use Rattle.index.proofs.twice.span.Goals as goal
 
 pub returns-then-marks-r-eq1 : goal.returns-then-marks-r-eq1

@@ -1,7 +1,6 @@
 -- `index::way::is_there` meets its contract. A record is found, or none has the key.
 -- Assumes nothing.
 use Rattle.index.proofs.LookLaws.{sought-yes, sought-none}
-use borrow.Author.Rules.{rules}
 use Rattle.index.proofs.way.is_there.Goals as goal
 
 pub returns-in-At : goal.returns-in-At

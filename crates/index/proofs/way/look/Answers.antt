@@ -1,7 +1,6 @@
 -- `index::way::look` meets its contract. By hints that find every key, or by halving.
 -- Assumes nothing.
 use Rattle.index.proofs.WayLaws.{guess-sought, look-hinted, look-sorted}
-use borrow.Author.Rules.{rules}
 use Rattle.index.proofs.way.look.Goals as goal
 
 pub find-requires : goal.find-requires

@@ -1,7 +1,6 @@
 -- `index::way::prepare` meets its contract. Hints, where every key has its place, or an order that is sorted.
 -- Assumes nothing.
 use native.Mathlib.Omega.{arith}
-use borrow.Author.Rules.{rules}
 use Rattle.index.specs.Keys.{listed}
 use Rattle.index.proofs.TwiceLaws.{distinct_none}
 use Rattle.index.proofs.WayLaws.{way-hinted, way-sorted}
@@ -14,4 +13,4 @@ pub distinct-requires : goal.distinct-requires
 distinct-requires c = c.sort.ensures.index (c.sort.ensures.room c.requires.1 (omega arith))
 
 pub returns : goal.returns
-returns c =    way-sorted _ _ _ c.requires.0 c.requires.1 (c.sort.ensures.index (c.sort.ensures.room c.requires.1 (omega arith))) (distinct_none (listed c.args.keys.now) c.args.n c.distinct.ensures)
+returns c = way-sorted _ _ _ c.requires.0 c.requires.1 (c.sort.ensures.index (c.sort.ensures.room c.requires.1 (omega arith))) (distinct_none (listed c.args.keys.now) c.args.n c.distinct.ensures)

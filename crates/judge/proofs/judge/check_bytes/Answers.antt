@@ -1,6 +1,5 @@
 -- `judge::judge::check_bytes` meets its contract.
 -- Assumes nothing.
-use borrow.Author.Rules.{rules}
 use Rattle.judge.proofs.judge.check_bytes.Goals as goal
 
 pub returns-then-shape : goal.returns-then-shape

@@ -1,6 +1,5 @@
 -- `judge::judge::check_bytes_of` meets its contract: a kind gives its file's finding.
 -- Assumes nothing.
-use borrow.Author.Rules.{rules}
 use Rattle.judge.proofs.judge.check_bytes_of.Goals as goal
 
 pub returns-in-NoFile : goal.returns-in-NoFile

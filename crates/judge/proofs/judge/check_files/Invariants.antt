@@ -2,10 +2,9 @@
 -- Assumes nothing.
 use Prim.Native.Nat.{◌+◌, ◌-◌}
 use mathlib.Core.List.{map}
-use borrow.Author.Rules.{rules}
 use Rattle.record.specs.Table.{file_count}
 use Rattle.record.specs.Files.{files_of}
-use Rattle.keys.proofs.OverLaws.{Onward, files-start, files-more, files-here, files-end}
+use Rattle.keys.proofs.OverLaws.{Onward}
 use Rattle.judge.proofs.JudgeLaws.{bytes_in}
 use Rattle.judge.proofs.judge.check_files.Given as goal
 

@@ -1,6 +1,5 @@
 -- `judge::judge::check_group` meets its contract, by the ten.
 -- Assumes nothing.
-use borrow.Author.Rules.{rules}
 use Rattle.judge.specs.machinery.Searched.{group_at}
 use Rattle.judge.proofs.JudgeLaws.{group-else}
 use Rattle.judge.proofs.judge.check_group.Goals as goal

@@ -1,28 +1,23 @@
 -- `judge::judge::count_all` meets its contract. The loop's invariant: the counts of the files before are those of the row.
 -- Assumes nothing.
-use Prim.Native.Nat.{◌-◌, ◌≤◌}
-use mathlib.Core.List.{[], map}
-use mathlib.Core.Path.{◌≡◌, refl, ◌∙◌}
+use mathlib.Core.List.{[]}
+use mathlib.Core.Path.{refl, ◌∙◌}
 use native.Mathlib.Omega.{arith}
-use lib.ListN.{length, take, length-set}
-use borrow.Author.Rules.{rules}
-use Rattle.record.specs.Table.{file_count}
-use Rattle.laws.specs.Row.{row}
+use lib.ListN.{length-set}
 use Rattle.laws.proofs.RowLaws.{row-start, row_more, row-end}
-use Rattle.record.specs.Files.{files_of}
-use Rattle.judge.proofs.JudgeLaws.{count_no, count_turn, counts-row}
+use Rattle.judge.proofs.JudgeLaws.{count_turn, counts-row}
 use Rattle.judge.proofs.judge.count_all.Goals as goal
 
 pub loop-n-init : goal.loop-n-init
 loop-n-init c = (omega arith, refl, row-start _ [])
 
 pub loop-n-preserved : goal.loop-n-preserved
-loop-n-preserved c =    let l = c.loop-n in (
-      omega arith,
-      simp length-set l.invariant.1,
-      row_more _ l.n l.counts c.count_of.result (omega arith) l.invariant.2 (count_turn _ l.n c.kind_of.ensures c.count_of.ensures),
-    )
+loop-n-preserved c = let l = c.loop-n in (
+  omega arith,
+  simp length-set l.invariant.1,
+  row_more _ l.n l.counts c.count_of.result (omega arith) l.invariant.2 (count_turn _ l.n c.kind_of.ensures c.count_of.ensures),
+)
 
 pub returns : goal.returns
-returns c =    let l = c.loop-n in
+returns c = let l = c.loop-n in
     row-end _ l.counts l.invariant.1 l.invariant.0 c.loop-n-test.false l.invariant.2 ∙ counts-row _

@@ -1,16 +1,13 @@
 -- `judge::judge::count_all` meets its contract. The loop's invariant: the counts of the files before are those of the row.
 -- Assumes nothing.
 use Prim.Native.Nat.{◌-◌, ◌≤◌}
-use mathlib.Core.List.{[], map}
-use mathlib.Core.Path.{◌≡◌, refl, ◌∙◌}
-use native.Mathlib.Omega.{arith}
-use lib.ListN.{length, take, length-set}
-use borrow.Author.Rules.{rules}
+use mathlib.Core.List.{map}
+use mathlib.Core.Path.{◌≡◌}
+use lib.ListN.{length, take}
 use Rattle.record.specs.Table.{file_count}
 use Rattle.laws.specs.Row.{row}
-use Rattle.laws.proofs.RowLaws.{row-start, row_more, row-end}
 use Rattle.record.specs.Files.{files_of}
-use Rattle.judge.proofs.JudgeLaws.{count_no, count_turn, counts-row}
+use Rattle.judge.proofs.JudgeLaws.{count_no}
 use Rattle.judge.proofs.judge.count_all.Given as goal
 
 abbrev pub invariant-loop-n : goal.invariant-loop-n

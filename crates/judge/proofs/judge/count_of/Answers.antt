@@ -1,6 +1,5 @@
 -- `judge::judge::count_of` meets its contract: a kind gives the number of its file's whole records.
 -- Assumes nothing.
-use borrow.Author.Rules.{rules}
 use Rattle.record.specs.Table.{on_file}
 use Rattle.judge.proofs.judge.count_of.Goals as goal
 

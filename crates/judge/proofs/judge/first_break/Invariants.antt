@@ -2,12 +2,10 @@
 -- Assumes nothing.
 use Prim.Native.Nat.{◌+◌, ◌-◌}
 use mathlib.Core.List.{map}
-use native.Mathlib.Omega.{arith}
-use borrow.Author.Rules.{rules}
 use Rattle.record.specs.Files.{files_of}
-use Rattle.keys.proofs.OverLaws.{Fines, fines-start, fines_more, fines-here, fines-end}
+use Rattle.keys.proofs.OverLaws.{Fines}
 use Rattle.judge.specs.Broken.{last_ten}
-use Rattle.judge.specs.machinery.Searched.{group_at, searched}
+use Rattle.judge.specs.machinery.Searched.{group_at}
 use Rattle.judge.proofs.judge.first_break.Given as goal
 
 abbrev pub invariant-loop-t : goal.invariant-loop-t

@@ -1,6 +1,5 @@
 -- `judge::judge::judge` meets its contract: THE VERDICT.
 -- Assumes nothing.
-use borrow.Author.Rules.{rules}
 use Rattle.judge.specs.Verdict.{verdict_of}
 use Rattle.judge.proofs.Exact.{searched-is}
 use Rattle.judge.proofs.judge.judge.Goals as goal

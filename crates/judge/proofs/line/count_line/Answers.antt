@@ -1,17 +1,15 @@
 -- `judge::line::count_line` meets its contract: the loop's invariant says what is left of the line.
 -- Assumes nothing.
-use Prim.Native.Nat.{◌-◌}
 use mathlib.Core.Path.{refl}
 use borrow.Author.Rules.{rules}
-use Rattle.record.specs.Table.{file_count}
-use Rattle.judge.proofs.LineLaws.{Counting, counting_more, counting-end}
+use Rattle.judge.proofs.LineLaws.{counting_more, counting-end}
 use Rattle.judge.proofs.line.count_line.Goals as goal
 
 pub loop-i-init : goal.loop-i-init
 loop-i-init c = record { few = search rules; all = search rules; place = search rules; so_far = record { room = refl; written = refl; rest = refl } }
 
 pub loop-i-preserved : goal.loop-i-preserved
-loop-i-preserved c =    let w = c.put_word-at in
+loop-i-preserved c = let w = c.put_word-at in
     counting_more c.loop-i.invariant c.loop-i-test.true c.put_word-at.auto.buf w.ensures
 
 pub returns : goal.returns

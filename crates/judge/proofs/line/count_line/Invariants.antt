@@ -1,10 +1,8 @@
 -- `judge::line::count_line` meets its contract: the loop's invariant says what is left of the line.
 -- Assumes nothing.
 use Prim.Native.Nat.{◌-◌}
-use mathlib.Core.Path.{refl}
-use borrow.Author.Rules.{rules}
 use Rattle.record.specs.Table.{file_count}
-use Rattle.judge.proofs.LineLaws.{Counting, counting_more, counting-end}
+use Rattle.judge.proofs.LineLaws.{Counting}
 use Rattle.judge.proofs.line.count_line.Given as goal
 
 abbrev pub invariant-loop-i : goal.invariant-loop-i

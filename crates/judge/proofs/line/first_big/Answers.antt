@@ -1,22 +1,17 @@
 -- `judge::line::first_big` meets its contract. The loop's invariant: no file before number `n` is big.
 -- Assumes nothing.
-use Prim.Native.Nat.{◌+◌, ◌-◌}
-use mathlib.Core.List.{map}
-use borrow.Author.Rules.{rules}
-use Rattle.record.specs.Table.{file_count}
-use Rattle.record.specs.Files.{files_of}
-use Rattle.judge.proofs.LineLaws.{NoneBig, big-start, big-more, big-here, big-end}
+use Rattle.judge.proofs.LineLaws.{big-start, big-more, big-here, big-end}
 use Rattle.judge.proofs.line.first_big.Goals as goal
 
 pub loop-n-init : goal.loop-n-init
 loop-n-init c = big-start _
 
 pub returns-then-is_big : goal.returns-then-is_big
-returns-then-is_big c =    big-here c.loop-n.invariant c.loop-n-test.true c.kind_of.ensures
+returns-then-is_big c = big-here c.loop-n.invariant c.loop-n-test.true c.kind_of.ensures
     c.is_big.ensures c.if-is_big.true
 
 pub loop-n-preserved : goal.loop-n-preserved
-loop-n-preserved c =    big-more c.loop-n.invariant c.loop-n-test.true c.kind_of.ensures
+loop-n-preserved c = big-more c.loop-n.invariant c.loop-n-test.true c.kind_of.ensures
     c.is_big.ensures c.if-is_big.false
 
 pub returns : goal.returns

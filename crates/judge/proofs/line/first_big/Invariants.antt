@@ -2,10 +2,9 @@
 -- Assumes nothing.
 use Prim.Native.Nat.{◌+◌, ◌-◌}
 use mathlib.Core.List.{map}
-use borrow.Author.Rules.{rules}
 use Rattle.record.specs.Table.{file_count}
 use Rattle.record.specs.Files.{files_of}
-use Rattle.judge.proofs.LineLaws.{NoneBig, big-start, big-more, big-here, big-end}
+use Rattle.judge.proofs.LineLaws.{NoneBig}
 use Rattle.judge.proofs.line.first_big.Given as goal
 
 abbrev pub invariant-loop-n : goal.invariant-loop-n

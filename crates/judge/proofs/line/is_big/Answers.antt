@@ -1,6 +1,5 @@
 -- `judge::line::is_big` meets its contract.
 -- Assumes nothing.
-use borrow.Author.Rules.{rules}
 use Rattle.judge.proofs.line.is_big.Goals as goal
 
 pub returns-in-File : goal.returns-in-File

@@ -3,7 +3,6 @@
 use mathlib.Core.Path.{refl, ap, ◌∙◌}
 use Rattle.judge.specs.Line.{line_in}
 use Rattle.judge.proofs.LineLaws.{fine-line, broken-line}
-use borrow.Author.Rules.{rules}
 use Rattle.judge.proofs.line.line_of.Goals as goal
 
 pub returns-in-Fine : goal.returns-in-Fine

@@ -2,7 +2,6 @@
 -- Assumes nothing.
 use native.Mathlib.Omega.{arith}
 use lib.ListN.{length-set}
-use borrow.Author.Rules.{rules}
 use Rattle.judge.proofs.LineLaws.{word_keeps, word-put, word-rest}
 use Rattle.judge.proofs.line.put_word.Goals as goal
 
@@ -10,11 +9,11 @@ pub slice_bounds-put_number-end : goal.slice_bounds-put_number-end
 slice_bounds-put_number-end c = simp length-set (omega arith)
 
 pub shape_of-buf : goal.shape_of-buf
-shape_of-buf c =    word_keeps c.args.at c.args.w c.args.buf.now c.requires c.put_number.new.part c.put_number.auto.part
+shape_of-buf c = word_keeps c.args.at c.args.w c.args.buf.now c.requires c.put_number.new.part c.put_number.auto.part
 
 pub returns : goal.returns
-returns c =    let p = c.put_number in (
-      omega arith,
-      word-put c.args.at c.args.w c.args.buf.now c.requires c.put_number.new.part c.put_number.auto.part c.args.n p.ensures,
-      word-rest c.args.at c.args.w c.args.buf.now c.requires c.put_number.new.part c.put_number.auto.part,
-    )
+returns c = let p = c.put_number in (
+  omega arith,
+  word-put c.args.at c.args.w c.args.buf.now c.requires c.put_number.new.part c.put_number.auto.part c.args.n p.ensures,
+  word-rest c.args.at c.args.w c.args.buf.now c.requires c.put_number.new.part c.put_number.auto.part,
+)

@@ -1,7 +1,6 @@
 -- `keys::group::check_file` meets its contract: the file's finding from its tally.
 -- Assumes nothing.
 use native.Mathlib.Omega.{arith}
-use borrow.Author.Rules.{rules}
 use Rattle.keys.proofs.KeyTallies.{key_row, key-broken, key-fine}
 use Rattle.keys.proofs.group.check_file.Goals as goal
 
@@ -12,7 +11,7 @@ pub overflow_add-i : goal.overflow_add-i
 overflow_add-i c = omega (arith, key_row _ _ _ c.requires c.if-tally.true)
 
 pub returns-then-tally : goal.returns-then-tally
-returns-then-tally c =    key-broken _ _ _ c.requires c.if-tally.true
+returns-then-tally c = key-broken _ _ _ c.requires c.if-tally.true
     (rw (← c.reason_in-reason.ensures) c.break_of.ensures)
 
 pub returns-else-tally : goal.returns-else-tally

@@ -2,11 +2,10 @@
 -- Assumes nothing.
 use Prim.Native.Nat.{◌+◌, ◌-◌}
 use mathlib.Core.List.{map}
-use borrow.Author.Rules.{rules}
 use Rattle.record.specs.Files.{files_of, delivery_of}
 use Rattle.record.specs.Table.{file_count}
-use Rattle.keys.specs.machinery.Findings.{keys_in, keys_finding}
-use Rattle.keys.proofs.OverLaws.{Onward, files-start, files-more, files-here, files-end}
+use Rattle.keys.specs.machinery.Findings.{keys_in}
+use Rattle.keys.proofs.OverLaws.{Onward}
 use Rattle.keys.proofs.group.check_keys.Given as goal
 
 abbrev pub invariant-loop-n : goal.invariant-loop-n

@@ -1,7 +1,6 @@
 -- `keys::group::check_which` meets its contract: a number that is a file's gives its file's finding.
 -- Assumes nothing.
 use mathlib.Core.Path.{◌∙◌}
-use borrow.Author.Rules.{rules}
 use Rattle.keys.proofs.KeyTallies.{tally-own}
 use Rattle.keys.proofs.group.check_which.Goals as goal
 

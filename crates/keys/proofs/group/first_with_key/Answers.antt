@@ -1,12 +1,9 @@
 -- `keys::group::first_with_key` meets its contract. The loop's invariant: no record before `j` has the key.
 -- Assumes nothing.
-use Prim.Native.Nat.{◌-◌}
 use mathlib.Core.Path.{sym, ◌∙◌}
-use lib.Dec.{eqb}
-use borrow.Author.Rules.{rules}
 use Rattle.record.specs.Says.{table_of}
 use Rattle.record.specs.Names.{key_of}
-use Rattle.index.proofs.FoundLaws.{Passed, found-start}
+use Rattle.index.proofs.FoundLaws.{found-start}
 use Rattle.keys.proofs.KeyCells.{named_here, named_more, named_end}
 use Rattle.keys.proofs.group.first_with_key.Goals as goal
 
@@ -14,13 +11,13 @@ pub loop-j-init : goal.loop-j-init
 loop-j-init c = found-start _ _
 
 pub returns-then-record_key-x : goal.returns-then-record_key-x
-returns-then-record_key-x c =    named_here _ _ _ c.loop-j.invariant c.loop-j-test.true
+returns-then-record_key-x c = named_here _ _ _ c.loop-j.invariant c.loop-j-test.true
     (sym c.record_key.ensures ∙ c.if-record_key-x.true)
 
 pub loop-j-preserved : goal.loop-j-preserved
-loop-j-preserved c =    named_more _ _ _ c.loop-j.invariant c.loop-j-test.true
+loop-j-preserved c = named_more _ _ _ c.loop-j.invariant c.loop-j-test.true
     (λ e. c.if-record_key-x.false (c.record_key.ensures ∙ e))
 
 pub returns : goal.returns
-returns c =    let a = c.args in
+returns c = let a = c.args in
     named_end (key_of a.k (table_of a.s.now a.k)) _ a.x c.loop-j.invariant c.loop-j-test.false

@@ -1,6 +1,5 @@
 -- `keys::group::prepare_letters` meets its contract. The letters are in the array for the forties, and else nothing is said.
 -- Assumes nothing.
-use borrow.Author.Rules.{rules}
 use Rattle.keys.proofs.group.prepare_letters.Goals as goal
 
 pub fill_letters-requires : goal.fill_letters-requires

@@ -1,6 +1,5 @@
 -- `keys::group::refers_to_catalogue` meets its contract: by the number of the file referred to.
 -- Assumes nothing.
-use borrow.Author.Rules.{rules}
 use Rattle.keys.proofs.group.refers_to_catalogue.Goals as goal
 
 pub returns-in-To : goal.returns-in-To

@@ -1,6 +1,5 @@
 -- `keys::group::refers_to_nodes` meets its contract. By the number of the file referred to, and the field.
 -- Assumes nothing.
-use borrow.Author.Rules.{rules}
 use Rattle.keys.proofs.group.refers_to_nodes.Goals as goal
 
 pub returns-in-To : goal.returns-in-To

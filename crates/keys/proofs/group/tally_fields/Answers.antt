@@ -1,41 +1,35 @@
 -- `keys::group::tally_fields` meets its contract. The loop's invariant: the cells of the fields before `f` are tallied.
 -- Assumes nothing.
-use Prim.Native.Nat.{◌≤◌, ◌+◌, ◌*◌, ◌-◌}
-use mathlib.Core.List.{map}
 use native.Mathlib.Omega.{arith}
 use Rattle.record.proofs.TableLaws.{sane}
-use Rattle.record.specs.Files.{files_of, delivery_of}
-use Rattle.keys.specs.Rules.{key_tests}
-use Rattle.keys.specs.machinery.Cells.{TalliedTo}
 use Rattle.keys.proofs.KeyTallies.{fields-start, fields-next, fields-end}
-use Rattle.keys.proofs.LentLaws.{Kept, kept-start, lent-kept}
-use borrow.Author.Rules.{rules}
+use Rattle.keys.proofs.LentLaws.{kept-start, lent-kept}
 use Rattle.keys.proofs.group.tally_fields.Goals as goal
 
 pub loop-f-init : goal.loop-f-init
 loop-f-init c = (omega arith, fields-start _ _ c.no_tally-t.ensures, kept-start _ _ _ _ _ _ _)
 
 pub tally_field-t-requires : goal.tally_field-t-requires
-tally_field-t-requires c =    let l = c.loop-f.invariant in
+tally_field-t-requires c = let l = c.loop-f.invariant in
     (omega (arith, c.loop-f-test.true, c.fields-end.ensures), l.1, c.requires.0, lent-kept l.2 c.requires.1)
 
 pub overflow_add-f : goal.overflow_add-f
-overflow_add-f c =    omega (arith, c.loop-f-test.true, c.fields-end.ensures, sane c.args.k)
+overflow_add-f c = omega (arith, c.loop-f-test.true, c.fields-end.ensures, sane c.args.k)
 
 pub loop-f-preserved : goal.loop-f-preserved
-loop-f-preserved c =    let kept = c.loop-f.invariant.2 in (
-      omega (arith, c.loop-f-test.true),
-      fields-next _ c.tally_field-t.ensures,
-      record {
-        refs-long = omega (arith, c.refs-1.given, kept.refs-long);
-        names-long = omega (arith, c.names-1.given, kept.names-long);
-        hints-long = omega (arith, c.hints-1.given, kept.hints-long);
-        order-long = omega (arith, c.order-1.given, kept.order-long);
-        types_long = omega (arith, c.types-1.given, kept.types_long);
-        others-long = omega (arith, c.others-1.given, kept.others-long);
-        marks-long = omega (arith, c.marks-1.given, kept.marks-long);
-      },
-    )
+loop-f-preserved c = let kept = c.loop-f.invariant.2 in (
+  omega (arith, c.loop-f-test.true),
+  fields-next _ c.tally_field-t.ensures,
+  record {
+    refs-long = omega (arith, c.refs-1.given, kept.refs-long);
+    names-long = omega (arith, c.names-1.given, kept.names-long);
+    hints-long = omega (arith, c.hints-1.given, kept.hints-long);
+    order-long = omega (arith, c.order-1.given, kept.order-long);
+    types_long = omega (arith, c.types-1.given, kept.types_long);
+    others-long = omega (arith, c.others-1.given, kept.others-long);
+    marks-long = omega (arith, c.marks-1.given, kept.marks-long);
+  },
+)
 
 pub shape_of-refs : goal.shape_of-refs
 shape_of-refs c = c.loop-f.invariant.2.refs-long

@@ -2,14 +2,10 @@
 -- Assumes nothing.
 use Prim.Native.Nat.{◌≤◌, ◌+◌, ◌*◌, ◌-◌}
 use mathlib.Core.List.{map}
-use native.Mathlib.Omega.{arith}
-use Rattle.record.proofs.TableLaws.{sane}
 use Rattle.record.specs.Files.{files_of, delivery_of}
 use Rattle.keys.specs.Rules.{key_tests}
 use Rattle.keys.specs.machinery.Cells.{TalliedTo}
-use Rattle.keys.proofs.KeyTallies.{fields-start, fields-next, fields-end}
-use Rattle.keys.proofs.LentLaws.{Kept, kept-start, lent-kept}
-use borrow.Author.Rules.{rules}
+use Rattle.keys.proofs.LentLaws.{Kept}
 use Rattle.keys.proofs.group.tally_fields.Given as goal
 
 abbrev pub invariant-loop-f : goal.invariant-loop-f

@@ -1,30 +1,25 @@
 -- `keys::group::tally_files` meets its contract. The loop's invariant: the tallies of the first `i` files are in the array.
 -- Assumes nothing.
-use Prim.Native.Nat.{◌≤◌, ◌-◌}
-use mathlib.Core.List.{[], map}
-use mathlib.Core.Path.{◌≡◌, refl, ◌∙◌}
+use mathlib.Core.List.{[]}
+use mathlib.Core.Path.{refl, ◌∙◌}
 use native.Mathlib.Omega.{arith}
-use lib.ListN.{length, take, length-set}
+use lib.ListN.{length-set}
 use Rattle.laws.proofs.RowLaws.{row-start, row_more, row-end}
-use Rattle.laws.specs.Row.{row}
-use Rattle.record.specs.Files.{files_of, delivery_of}
-use Rattle.record.specs.Table.{file_count}
-use Rattle.keys.proofs.KeyTallies.{tally_no, tally-turn, tallies-row}
-use Rattle.keys.proofs.LentLaws.{Kept, kept-start, lent-kept}
-use borrow.Author.Rules.{rules}
+use Rattle.keys.proofs.KeyTallies.{tally-turn, tallies-row}
+use Rattle.keys.proofs.LentLaws.{kept-start, lent-kept}
 use Rattle.keys.proofs.group.tally_files.Goals as goal
 
 pub loop-i-init : goal.loop-i-init
 loop-i-init c = (omega arith, refl, row-start _ [], kept-start _ _ _ _ _ _ _)
 
 pub tally_which-requires : goal.tally_which-requires
-tally_which-requires c =    (c.requires.0, lent-kept c.loop-i.invariant.3 c.requires.1)
+tally_which-requires c = (c.requires.0, lent-kept c.loop-i.invariant.3 c.requires.1)
 
 pub bounds-tallies-i : goal.bounds-tallies-i
-bounds-tallies-i c =    omega (arith, c.loop-i.invariant.1, c.loop-i-test.true)
+bounds-tallies-i c = omega (arith, c.loop-i.invariant.1, c.loop-i-test.true)
 
 pub loop-i-preserved : goal.loop-i-preserved
-loop-i-preserved c =    let l = c.loop-i in
+loop-i-preserved c = let l = c.loop-i in
     let under = c.loop-i-test.true in
     let kept = l.invariant.3 in (
       omega (arith, under),
@@ -64,5 +59,5 @@ pub shape_of-marks : goal.shape_of-marks
 shape_of-marks c = c.loop-i.invariant.3.marks-long
 
 pub returns : goal.returns
-returns c =    let l = c.loop-i in
+returns c = let l = c.loop-i in
     row-end _ l.tallies l.invariant.1 l.invariant.0 c.loop-i-test.false l.invariant.2 ∙ tallies-row _ _

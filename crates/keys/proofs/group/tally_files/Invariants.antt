@@ -1,17 +1,14 @@
 -- `keys::group::tally_files` meets its contract. The loop's invariant: the tallies of the first `i` files are in the array.
 -- Assumes nothing.
 use Prim.Native.Nat.{◌≤◌, ◌-◌}
-use mathlib.Core.List.{[], map}
-use mathlib.Core.Path.{◌≡◌, refl, ◌∙◌}
-use native.Mathlib.Omega.{arith}
-use lib.ListN.{length, take, length-set}
-use Rattle.laws.proofs.RowLaws.{row-start, row_more, row-end}
+use mathlib.Core.List.{map}
+use mathlib.Core.Path.{◌≡◌}
+use lib.ListN.{length, take}
 use Rattle.laws.specs.Row.{row}
 use Rattle.record.specs.Files.{files_of, delivery_of}
 use Rattle.record.specs.Table.{file_count}
-use Rattle.keys.proofs.KeyTallies.{tally_no, tally-turn, tallies-row}
-use Rattle.keys.proofs.LentLaws.{Kept, kept-start, lent-kept}
-use borrow.Author.Rules.{rules}
+use Rattle.keys.proofs.KeyTallies.{tally_no}
+use Rattle.keys.proofs.LentLaws.{Kept}
 use Rattle.keys.proofs.group.tally_files.Given as goal
 
 abbrev pub invariant-loop-i : goal.invariant-loop-i

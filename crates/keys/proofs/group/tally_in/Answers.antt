@@ -5,27 +5,25 @@ use native.Mathlib.Omega.{arith}
 use Rattle.record.specs.declared.kind.Kind.TheVariants.{Catalogo, Nodo}
 use Rattle.record.specs.Files.{files_of}
 use Rattle.keys.proofs.LentLaws.{table-room, in-hand, typed-hand}
-use borrow.Author.Rules.{rules}
 use Rattle.keys.proofs.group.tally_in.Goals as goal
 
 pub prepare_names-way-requires : goal.prepare_names-way-requires
-prepare_names-way-requires c =    let files = files_of (map (λ x. x.now) c.args.files) in
+prepare_names-way-requires c = let files = files_of (map (λ x. x.now) c.args.files) in
     let cat = c.file_of-cat.ensures in
     (table-room files cat c.requires.1, table-room files cat c.requires.2)
 
 pub prepare_letters-requires : goal.prepare_letters-requires
-prepare_letters-requires c =    let files = files_of (map (λ x. x.now) c.args.files) in
+prepare_letters-requires c = let files = files_of (map (λ x. x.now) c.args.files) in
     omega (arith, c.rows-n.ensures.value, table-room files c.file_of-cat.ensures c.requires.0)
 
 pub prepare_names-by-requires : goal.prepare_names-by-requires
-prepare_names-by-requires c =    let files = files_of (map (λ x. x.now) c.args.files) in
+prepare_names-by-requires c = let files = files_of (map (λ x. x.now) c.args.files) in
     let nodes = c.file_of-nodo.ensures in
     (table-room files nodes c.requires.3, table-room files nodes c.requires.4)
 
 pub tally_files-requires : goal.tally_files-requires
-tally_files-requires c =    let files = files_of (map (λ x. x.now) c.args.files) in
-    let cat = c.file_of-cat.ensures in
-    (
+tally_files-requires c = let files = files_of (map (λ x. x.now) c.args.files) in
+    let cat = c.file_of-cat.ensures in (
       record {
         in-hand = λ h. record {
           catalogue = in-hand files Catalogo cat c.rows-n.ensures.value c.prepare_names-way.ensures.fills c.prepare_names-way.ensures.ready h;

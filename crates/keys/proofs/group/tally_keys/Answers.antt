@@ -1,6 +1,5 @@
 -- `keys::group::tally_keys` meets its contract: the tallies are the same in either arrays.
 -- Assumes nothing.
-use borrow.Author.Rules.{rules}
 use Rattle.keys.proofs.group.tally_keys.Goals as goal
 
 pub with_few-requires : goal.with_few-requires

@@ -1,7 +1,6 @@
 -- `keys::group::tally_of` meets its contract: a kind's number, less one, is a place of the array.
 -- Assumes nothing.
 use native.Mathlib.Omega.{arith}
-use borrow.Author.Rules.{rules}
 use Rattle.record.proofs.TableLaws.{sane}
 use Rattle.keys.proofs.group.tally_of.Goals as goal
 

@@ -1,7 +1,6 @@
 -- `keys::group::tally_which` meets its contract. A number that is a file's gives its file's tally.
 -- Assumes nothing.
 use native.Mathlib.Omega.{arith}
-use borrow.Author.Rules.{rules}
 use Rattle.keys.proofs.group.tally_which.Goals as goal
 
 pub tally_file-requires : goal.tally_file-requires
@@ -32,4 +31,4 @@ pub shape_of-marks : goal.shape_of-marks
 shape_of-marks c = omega (arith, c.marks-1.given)
 
 pub returns-in-File : goal.returns-in-File
-returns-in-File c =    rw c.in-File.is c.tally_file.ensures
+returns-in-File c = rw c.in-File.is c.tally_file.ensures

@@ -1,13 +1,9 @@
 -- `keys::refer::fill_letters` meets its contract. The loop's invariant: the letters of the first `j` records are in the array.
 -- Assumes nothing.
-use Prim.Native.Nat.{◌-◌}
-use mathlib.Core.Path.{◌≡◌, refl}
-use lib.ListN.{length, length-set}
+use mathlib.Core.Path.{refl}
+use lib.ListN.{length-set}
 use native.Mathlib.Omega.{arith}
-use Rattle.record.specs.declared.kind.Kind.TheVariants.{Catalogo}
-use Rattle.record.specs.Says.{table_of}
-use Rattle.keys.proofs.TypeLaws.{Spelt, spelt-start, spelt-more, letters-end}
-use borrow.Author.Rules.{rules}
+use Rattle.keys.proofs.TypeLaws.{spelt-start, spelt-more, letters-end}
 use Rattle.keys.proofs.refer.fill_letters.Goals as goal
 
 pub loop-j-init : goal.loop-j-init

@@ -1,6 +1,5 @@
 -- `keys::refer::is_missed` meets its contract. By what was found.
 -- Assumes nothing.
-use borrow.Author.Rules.{rules}
 use Rattle.keys.proofs.refer.is_missed.Goals as goal
 
 pub returns-in-Nothing : goal.returns-in-Nothing

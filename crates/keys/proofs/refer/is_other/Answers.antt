@@ -1,6 +1,5 @@
 -- `keys::refer::is_other` meets its contract. By what was found.
 -- Assumes nothing.
-use borrow.Author.Rules.{rules}
 use Rattle.keys.proofs.refer.is_other.Goals as goal
 
 pub bounds-letters-j : goal.bounds-letters-j

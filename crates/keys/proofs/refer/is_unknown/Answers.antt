@@ -2,7 +2,6 @@
 -- Assumes nothing.
 use mathlib.Core.Path.{sym}
 use Rattle.keys.proofs.ReferLaws.{dangles-missing, dangles-named}
-use borrow.Author.Rules.{rules}
 use Rattle.keys.proofs.refer.is_unknown.Goals as goal
 
 pub returns-then-x-eq0 : goal.returns-then-x-eq0

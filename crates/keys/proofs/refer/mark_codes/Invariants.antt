@@ -1,18 +1,10 @@
 -- `keys::refer::mark_codes` meets its contract. The loop's invariant: the marks of the first `i` codes say which aren't catalogued, and which are under another type.
 -- Assumes nothing.
 use Prim.Native.Nat.{◌-◌}
-use mathlib.Core.Path.{refl, ap, ◌∙◌}
 use lib.ListN.{get_or}
-use native.Mathlib.Omega.{arith}
-use Rattle.laws.specs.Count.{bit}
 use Rattle.index.specs.Marks.{Marked}
-use Rattle.index.proofs.LookLaws.{sought-below}
-use Rattle.index.proofs.MarkLaws.{marked_start, marked_more, marked-end}
 use Rattle.keys.specs.Rules.{dangles}
 use Rattle.keys.specs.machinery.Types.{mistyped_by}
-use Rattle.keys.proofs.ReferLaws.{missed-dangles}
-use Rattle.keys.proofs.TypeLaws.{other-mistyped}
-use borrow.Author.Rules.{rules}
 use Rattle.keys.proofs.refer.mark_codes.Given as goal
 
 abbrev pub invariant-loop-i : goal.invariant-loop-i

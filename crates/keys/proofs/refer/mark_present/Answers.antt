@@ -1,14 +1,7 @@
 -- `keys::refer::mark_present` meets its contract. The loop's invariant: the marks of the first `i` records say in which of them the field is there.
 -- Assumes nothing.
-use Prim.Native.Nat.{◌-◌}
-use mathlib.Core.Bool.{not}
 use mathlib.Core.Path.{◌∙◌}
-use lib.Dec.{eqb}
-use Rattle.index.specs.Marks.{Marked}
 use Rattle.index.proofs.MarkLaws.{marked_start, marked_more, marked-end}
-use Rattle.record.specs.Names.{name_at}
-use Rattle.record.specs.Says.{table_of}
-use borrow.Author.Rules.{rules}
 use native.Mathlib.Omega.{arith}
 use Rattle.keys.proofs.refer.mark_present.Goals as goal
 
@@ -19,7 +12,7 @@ pub bounds-marks-i : goal.bounds-marks-i
 bounds-marks-i c = omega (arith, c.loop-i.invariant.long, c.rows-n.ensures.small)
 
 pub loop-i-preserved : goal.loop-i-preserved
-loop-i-preserved c =    marked_more (omega (arith, c.loop-i.invariant.long, c.rows-n.ensures.small))
+loop-i-preserved c = marked_more (omega (arith, c.loop-i.invariant.long, c.rows-n.ensures.small))
     (c.as_mark.ensures ∙ rw (← c.name.ensures.value)) c.loop-i.invariant
 
 pub shape_of-marks : goal.shape_of-marks

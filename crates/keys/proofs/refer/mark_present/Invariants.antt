@@ -2,14 +2,10 @@
 -- Assumes nothing.
 use Prim.Native.Nat.{◌-◌}
 use mathlib.Core.Bool.{not}
-use mathlib.Core.Path.{◌∙◌}
 use lib.Dec.{eqb}
 use Rattle.index.specs.Marks.{Marked}
-use Rattle.index.proofs.MarkLaws.{marked_start, marked_more, marked-end}
 use Rattle.record.specs.Names.{name_at}
 use Rattle.record.specs.Says.{table_of}
-use borrow.Author.Rules.{rules}
-use native.Mathlib.Omega.{arith}
 use Rattle.keys.proofs.refer.mark_present.Given as goal
 
 abbrev pub invariant-loop-i : goal.invariant-loop-i

@@ -1,14 +1,10 @@
 -- `keys::refer::mark_types` meets its contract. The loop's invariant: of the first `j` codes those of the type are marked at the records that look-ups find.
 -- Assumes nothing.
-use Prim.Native.Nat.{◌-◌, ◌≤◌}
-use mathlib.Core.Path.{◌≡◌, refl, ◌∙◌}
-use lib.Dec.{eqb}
-use lib.ListN.{length, get_or, length-set}
+use mathlib.Core.Path.{refl, ◌∙◌}
+use lib.ListN.{length-set}
 use native.Mathlib.Omega.{arith}
 use Rattle.index.proofs.LookLaws.{sought-record}
-use Rattle.keys.specs.machinery.Types.{Typing}
 use Rattle.keys.proofs.TypeLaws.{typing-start, typing-more, own-found, types-apart, types-end}
-use borrow.Author.Rules.{rules}
 use Rattle.keys.proofs.refer.mark_types.Goals as goal
 
 pub returns-then-way : goal.returns-then-way
@@ -39,13 +35,13 @@ pub bounds-types-r : goal.bounds-types-r
 bounds-types-r c = omega (arith, c.loop-j.invariant.2.room, (sought-record _ _ _ c.look-found.ensures.sought c.in-At.is).0)
 
 pub bounds-letters-j : goal.bounds-letters-j
-bounds-letters-j c =    omega (arith, c.loop-j-test.true, c.requires.1)
+bounds-letters-j c = omega (arith, c.loop-j-test.true, c.requires.1)
 
 pub bounds-types-r-in-loop-j : goal.bounds-types-r-in-loop-j
 bounds-types-r-in-loop-j c = omega (arith, c.loop-j.invariant.2.room, (sought-record _ _ _ c.look-found.ensures.sought c.in-At.is).0)
 
 pub loop-j-preserved : goal.loop-j-preserved
-loop-j-preserved c =    let l = c.loop-j in
+loop-j-preserved c = let l = c.loop-j in
     (omega arith, simp length-set l.invariant.1, typing-more _ _ _ _ _ _ l.invariant.2 c.look-found.ensures.sought c.look-found.ensures.same c.in-At.is c.as_mark.ensures)
 
 pub shape_of-types : goal.shape_of-types

@@ -1,14 +1,10 @@
 -- `keys::refer::mark_types` meets its contract. The loop's invariant: of the first `j` codes those of the type are marked at the records that look-ups find.
 -- Assumes nothing.
 use Prim.Native.Nat.{◌-◌, ◌≤◌}
-use mathlib.Core.Path.{◌≡◌, refl, ◌∙◌}
+use mathlib.Core.Path.{◌≡◌}
 use lib.Dec.{eqb}
-use lib.ListN.{length, get_or, length-set}
-use native.Mathlib.Omega.{arith}
-use Rattle.index.proofs.LookLaws.{sought-record}
+use lib.ListN.{length, get_or}
 use Rattle.keys.specs.machinery.Types.{Typing}
-use Rattle.keys.proofs.TypeLaws.{typing-start, typing-more, own-found, types-apart, types-end}
-use borrow.Author.Rules.{rules}
 use Rattle.keys.proofs.refer.mark_types.Given as goal
 
 abbrev pub invariant-loop-j : goal.invariant-loop-j

@@ -1,13 +1,8 @@
 -- `keys::refer::mark_unknown` meets its contract. The loop's invariant: the marks of the first `i` names say which of them are unknown.
 -- Assumes nothing.
-use Prim.Native.Nat.{◌-◌}
 use mathlib.Core.Path.{refl, ap, ◌∙◌}
-use lib.ListN.{get_or}
 use Rattle.laws.specs.Count.{bit}
-use Rattle.index.specs.Marks.{Marked}
 use Rattle.index.proofs.MarkLaws.{marked_start, marked_more, marked-end}
-use Rattle.keys.specs.Rules.{dangles}
-use borrow.Author.Rules.{rules}
 use native.Mathlib.Omega.{arith}
 use Rattle.keys.proofs.refer.mark_unknown.Goals as goal
 
@@ -18,7 +13,7 @@ pub bounds-marks-i : goal.bounds-marks-i
 bounds-marks-i c = omega (arith, c.loop-i.invariant.long)
 
 pub loop-i-preserved : goal.loop-i-preserved
-loop-i-preserved c =    marked_more (omega (arith, c.loop-i.invariant.long)) (c.as_mark.ensures ∙ ap bit c.is_unknown.ensures)
+loop-i-preserved c = marked_more (omega (arith, c.loop-i.invariant.long)) (c.as_mark.ensures ∙ ap bit c.is_unknown.ensures)
     c.loop-i.invariant
 
 pub shape_of-marks : goal.shape_of-marks

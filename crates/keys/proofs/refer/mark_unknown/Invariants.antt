@@ -1,14 +1,9 @@
 -- `keys::refer::mark_unknown` meets its contract. The loop's invariant: the marks of the first `i` names say which of them are unknown.
 -- Assumes nothing.
 use Prim.Native.Nat.{◌-◌}
-use mathlib.Core.Path.{refl, ap, ◌∙◌}
 use lib.ListN.{get_or}
-use Rattle.laws.specs.Count.{bit}
 use Rattle.index.specs.Marks.{Marked}
-use Rattle.index.proofs.MarkLaws.{marked_start, marked_more, marked-end}
 use Rattle.keys.specs.Rules.{dangles}
-use borrow.Author.Rules.{rules}
-use native.Mathlib.Omega.{arith}
 use Rattle.keys.proofs.refer.mark_unknown.Given as goal
 
 abbrev pub invariant-loop-i : goal.invariant-loop-i

@@ -5,11 +5,10 @@ use native.Mathlib.Omega.{arith}
 use Rattle.record.proofs.ColumnLaws.{read-fills}
 use Rattle.keys.specs.Rules.{dangles}
 use Rattle.keys.proofs.ReferLaws.{fills-limit, fills-room, one-filled}
-use borrow.Author.Rules.{rules}
 use Rattle.keys.proofs.refer.tally_known.Goals as goal
 
 pub tally_unknown-requires : goal.tally_unknown-requires
-tally_unknown-requires c =    let p = c.requires in
+tally_unknown-requires c = let p = c.requires in
     let own = read-fills p.1 c.fill_names-m.ensures in
     (p.0, fills-limit own, fills-room own, omega (arith, own.count, p.2), p.3)
 

@@ -2,12 +2,11 @@
 -- Assumes nothing.
 use mathlib.Core.Path.{refl, sym}
 use native.Mathlib.Omega.{arith}
-use borrow.Author.Rules.{rules}
 use Rattle.index.proofs.MarkLaws.{marked-end}
 use Rattle.keys.proofs.CellLaws.{one-as, one-marks}
 use Rattle.keys.proofs.refer.tally_present.Goals as goal
 
 pub returns : goal.returns
-returns c =    let count = c.rows-n.ensures.value in
+returns c = let count = c.rows-n.ensures.value in
     one-as count (λ i l. refl)
     (one-marks (marked-end _ (sym count) (omega arith) c.mark_present.ensures) c.with_marks.ensures)

@@ -1,6 +1,5 @@
 -- `keys::refer::tally_unknown` meets its contract. The cell by its marks.
 -- Assumes nothing.
-use borrow.Author.Rules.{rules}
 use Rattle.keys.proofs.CellLaws.{one-marks}
 use Rattle.keys.proofs.refer.tally_unknown.Goals as goal
 

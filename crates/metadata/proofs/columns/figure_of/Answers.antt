@@ -1,7 +1,6 @@
 -- `metadata::columns::figure_of` meets its contract.
 -- Assumes nothing.
 use Rattle.metadata.proofs.ColumnLaws.{no-figure}
-use borrow.Author.Rules.{rules}
 use borrow.Enum.Refused.{opened}
 use Rattle.metadata.proofs.columns.figure_of.Goals as goal
 

@@ -1,12 +1,9 @@
 -- `metadata::columns::fill_columns` meets its contract.
 -- Assumes nothing.
 use Prim.Native.Nat.{◌-◌}
-use mathlib.Core.Path.{◌≡◌, refl, sym, ◌∙◌}
-use native.Mathlib.Omega.{arith}
-use lib.ListN.{length, length-set}
-use Rattle.metadata.specs.Told.{kind_of, figure_of}
-use Rattle.metadata.proofs.ColumnLaws.{Cutting, cutting-start, most-past, line-long, cutting-byte, mark-whole, cutting-line, all-cut, all_kinds, all-figures, last-past, last-cut, last-column, lines_same, long-lines}
-use borrow.Author.Rules.{rules}
+use mathlib.Core.Path.{◌≡◌}
+use lib.ListN.{length}
+use Rattle.metadata.proofs.ColumnLaws.{Cutting}
 use Rattle.metadata.proofs.columns.fill_columns.Given as goal
 
 abbrev pub invariant-loop-i : goal.invariant-loop-i

@@ -1,6 +1,5 @@
 -- `metadata::columns::is_mark` meets its contract.
 -- Assumes nothing.
-use borrow.Author.Rules.{rules}
 use Rattle.metadata.proofs.columns.is_mark.Goals as goal
 
 pub returns : goal.returns

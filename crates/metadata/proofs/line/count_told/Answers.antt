@@ -1,6 +1,5 @@
 -- `metadata::line::count_told` meets its contract.
 -- Assumes nothing.
-use borrow.Author.Rules.{rules}
 use Rattle.metadata.proofs.line.count_told.Goals as goal
 
 pub returns-in-Is : goal.returns-in-Is

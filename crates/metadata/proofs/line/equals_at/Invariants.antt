@@ -3,11 +3,8 @@
 use Prim.Native.Nat.{◌≤◌, ◌+◌, ◌-◌}
 use mathlib.Core.Path.{◌≡◌}
 use mathlib.Core.Bool.{false}
-use native.Mathlib.Omega.{arith}
 use lib.ListN.{length, drop}
 use Rattle.metadata.specs.Told.{equals_from}
-use Rattle.metadata.proofs.LineLaws.{equals-here, equals-more, equals-none}
-use borrow.Author.Rules.{rules}
 use Rattle.metadata.proofs.line.equals_at.Given as goal
 
 abbrev pub invariant-loop-i : goal.invariant-loop-i

@@ -1,6 +1,5 @@
 -- `metadata::line::is_one` meets its contract.
 -- Assumes nothing.
-use borrow.Author.Rules.{rules}
 use Rattle.metadata.proofs.line.is_one.Goals as goal
 
 pub returns-in-Is : goal.returns-in-Is

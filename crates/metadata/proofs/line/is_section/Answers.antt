@@ -2,7 +2,6 @@
 -- Assumes nothing.
 use Rattle.metadata.specs.Told.{is_section}
 use Rattle.metadata.proofs.LineLaws.{no-section}
-use borrow.Author.Rules.{rules}
 use Rattle.metadata.proofs.line.is_section.Goals as goal
 
 pub returns-then-t-eq0 : goal.returns-then-t-eq0

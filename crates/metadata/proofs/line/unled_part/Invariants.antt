@@ -1,12 +1,9 @@
 -- `metadata::line::unled_part` meets its contract.
 -- Assumes nothing.
 use Prim.Native.Nat.{◌≤◌, ◌-◌}
-use mathlib.Core.Path.{◌≡◌, refl, ◌∙◌}
-use native.Mathlib.Omega.{arith}
+use mathlib.Core.Path.{◌≡◌}
 use lib.ListN.{length, drop}
 use Rattle.metadata.specs.Told.{unled}
-use Rattle.metadata.proofs.LineLaws.{unled-more, unled-stop, unled-end, rest-is}
-use borrow.Author.Rules.{rules}
 use Rattle.metadata.proofs.line.unled_part.Given as goal
 
 abbrev pub invariant-loop-i : goal.invariant-loop-i

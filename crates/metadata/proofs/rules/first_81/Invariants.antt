@@ -2,15 +2,12 @@
 -- Assumes nothing.
 use Prim.Native.Nat.{◌+◌, ◌-◌, ◌≤◌}
 use mathlib.Core.List.{List, map}
-use mathlib.Core.Path.{◌≡◌, sym, ◌∙◌}
-use native.Mathlib.Omega.{arith}
+use mathlib.Core.Path.{◌≡◌}
 use lib.ListN.{length}
-use borrow.Author.Tests.{eq-eqb, ne_eqb}
 use Rattle.metadata.specs.declared.told.Told.{Told}
 use Rattle.metadata.specs.Told.{kind_of}
 use Rattle.metadata.specs.Rules.{breaks81}
-use Rattle.metadata.proofs.RuleLaws.{kind_at, kinds-long, Clear, clear-81, clear-more, found, unfound, is-81}
-use borrow.Author.Rules.{rules}
+use Rattle.metadata.proofs.RuleLaws.{Clear}
 use Rattle.metadata.proofs.rules.first_81.Given as goal
 
 abbrev pub invariant-loop-i : goal.invariant-loop-i

@@ -1,17 +1,14 @@
 -- `metadata::rules::first_84` meets its contract.
 -- Assumes nothing.
-use Prim.Native.Nat.{ℕ, ◌+◌, ◌-◌, ◌≤◌}
+use Prim.Native.Nat.{◌+◌, ◌-◌, ◌≤◌}
 use mathlib.Core.List.{List, map}
-use mathlib.Core.Path.{◌≡◌, sym, ap, ◌∙◌}
-use native.Mathlib.Omega.{arith}
-use lib.Dec.{eqb}
+use mathlib.Core.Path.{◌≡◌}
 use lib.ListN.{length}
 use Rattle.metadata.specs.declared.told.Told.{Told}
 use Rattle.metadata.specs.Told.{kind_of}
-use Rattle.metadata.specs.Rules.{is_name, is_count, is_size, line_at, breaks84}
-use Rattle.metadata.proofs.RuleLaws.{kind_at, kinds-long, Clear, clear-more, found, unfound}
-use Rattle.metadata.proofs.SectionLaws.{Standing, standing-start, standing-head, standing-more, head-84, key-84, clear-84}
-use borrow.Author.Rules.{rules}
+use Rattle.metadata.specs.Rules.{is_name, is_count, is_size, breaks84}
+use Rattle.metadata.proofs.RuleLaws.{Clear}
+use Rattle.metadata.proofs.SectionLaws.{Standing}
 use Rattle.metadata.proofs.rules.first_84.Given as goal
 
 abbrev pub invariant-loop-i : goal.invariant-loop-i

@@ -1,18 +1,15 @@
 -- `metadata::rules::first_differing` meets its contract.
 -- Assumes nothing.
-use Prim.Native.Nat.{ℕ, ◌+◌, ◌-◌, ◌≤◌}
+use Prim.Native.Nat.{◌+◌, ◌-◌, ◌≤◌}
 use mathlib.Core.List.{List, map}
-use mathlib.Core.Path.{◌≡◌, sym, ap, ◌∙◌}
-use native.Mathlib.Omega.{arith}
-use lib.Dec.{eqb}
+use mathlib.Core.Path.{◌≡◌}
 use lib.ListN.{length}
 use Rattle.laws.specs.Row.{pick}
 use Rattle.metadata.specs.declared.told.Told.{Told}
 use Rattle.metadata.specs.Told.{kind_of, figure_of}
-use Rattle.metadata.specs.Rules.{is_count, is_size, line_at, file_of, differs}
-use Rattle.metadata.proofs.RuleLaws.{kind_at, kinds-long, figure-at, Clear, clear-more, found, unfound}
-use Rattle.metadata.proofs.SectionLaws.{Standing, standing-start, standing-head, standing-more, head-differs, key-differs, clear-differs, head-figure, file-head, file-more, file-start}
-use borrow.Author.Rules.{rules}
+use Rattle.metadata.specs.Rules.{is_count, is_size, file_of, differs}
+use Rattle.metadata.proofs.RuleLaws.{Clear}
+use Rattle.metadata.proofs.SectionLaws.{Standing}
 use Rattle.metadata.proofs.rules.first_differing.Given as goal
 
 abbrev pub invariant-loop-i : goal.invariant-loop-i

@@ -4,14 +4,10 @@ use Prim.Native.Nat.{◌-◌, ◌≤◌}
 use mathlib.Core.List.{List, map}
 use mathlib.Core.Option.{none}
 use mathlib.Core.Path.{◌≡◌}
-use native.Mathlib.Omega.{arith}
-use lib.ListN.{length}
 use Rattle.laws.specs.Find.{first_of}
 use Rattle.metadata.specs.declared.told.Told.{Told}
 use Rattle.metadata.specs.Told.{kind_of, figure_of}
-use Rattle.metadata.specs.Rules.{breaks}
-use Rattle.metadata.proofs.RuleLaws.{kinds-long, hit-line, no_line_lem, fault_by, fault-start, fault-more, fault-here, fault-none}
-use borrow.Author.Rules.{rules}
+use Rattle.metadata.proofs.RuleLaws.{fault_by}
 use Rattle.metadata.proofs.rules.first_fault.Given as goal
 
 abbrev pub invariant-loop-rule : goal.invariant-loop-rule

@@ -3,7 +3,6 @@
 use mathlib.Core.Path.{◌≡◌}
 use native.Mathlib.Omega.{arith}
 use Rattle.laws.proofs.MatchLaws.{none-past}
-use borrow.Author.Rules.{rules}
 use Rattle.metadata.proofs.rules.first_line.Goals as goal
 
 pub returns-in-0 : goal.returns-in-0
@@ -22,4 +21,4 @@ pub returns-in-4 : goal.returns-in-4
 returns-in-4 c = λ ts e g. rw c.in-4.is (c.first_differing.ensures ts e g)
 
 pub returns-in_default : goal.returns-in_default
-returns-in_default c =    λ ts e g. let l = none-past 0 5 c.args.rule c.in_default.in_default-own.rest (omega arith) in let q : c.args.rule ≡ 5 = omega (arith, c.requires.0) in rw q (c.first_differing-in_default.ensures ts e g)
+returns-in_default c = λ ts e g. let l = none-past 0 5 c.args.rule c.in_default.in_default-own.rest (omega arith) in let q : c.args.rule ≡ 5 = omega (arith, c.requires.0) in rw q (c.first_differing-in_default.ensures ts e g)

@@ -1,6 +1,5 @@
 -- `metadata::rules::is_figure` meets its contract.
 -- Assumes nothing.
-use borrow.Author.Rules.{rules}
 use Rattle.metadata.proofs.rules.is_figure.Goals as goal
 
 pub returns-then-of_size : goal.returns-then-of_size

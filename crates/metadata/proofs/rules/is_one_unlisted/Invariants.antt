@@ -2,16 +2,13 @@
 -- Assumes nothing.
 use Prim.Native.Nat.{◌-◌, ◌≤◌}
 use mathlib.Core.List.{List, map}
-use mathlib.Core.Path.{◌≡◌, sym, ◌∙◌}
+use mathlib.Core.Path.{◌≡◌}
 use mathlib.Core.Bool.{false}
-use native.Mathlib.Omega.{arith}
 use Rattle.laws.specs.Find.{any}
 use Rattle.metadata.specs.declared.told.Told.{Told}
 use Rattle.metadata.specs.Told.{kind_of, figure_of}
-use Rattle.laws.proofs.FindLaws.{any-start, any_next, any-true, any-end}
 use Rattle.metadata.specs.Rules.{most_files}
-use Rattle.metadata.proofs.SectionLaws.{Unlisted, is-unlisted, file-unlisted}
-use borrow.Author.Rules.{rules}
+use Rattle.metadata.proofs.SectionLaws.{Unlisted}
 use Rattle.metadata.proofs.rules.is_one_unlisted.Given as goal
 
 abbrev pub invariant-loop-f : goal.invariant-loop-f

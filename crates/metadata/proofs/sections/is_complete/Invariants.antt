@@ -1,15 +1,13 @@
 -- `metadata::sections::is_complete` meets its contract.
 -- Assumes nothing.
-use Rattle.metadata.specs.Rules.{is_name, is_count, is_size, line_at}
+use Rattle.metadata.specs.Rules.{is_name, is_count, is_size}
 use Prim.Native.Nat.{◌-◌, ◌≤◌}
 use mathlib.Core.List.{List, map}
-use mathlib.Core.Path.{◌≡◌, sym, ◌∙◌}
-use native.Mathlib.Omega.{arith}
+use mathlib.Core.Path.{◌≡◌}
 use lib.ListN.{length}
 use Rattle.metadata.specs.declared.told.Told.{Told}
 use Rattle.metadata.specs.Told.{kind_of}
-use Rattle.metadata.proofs.RuleLaws.{kind_at, kinds-long, Meeting, meeting-start, meeting-more, meeting-head, meeting-end}
-use borrow.Author.Rules.{rules}
+use Rattle.metadata.proofs.RuleLaws.{Meeting}
 use Rattle.metadata.proofs.sections.is_complete.Given as goal
 
 abbrev pub invariant-loop-i : goal.invariant-loop-i

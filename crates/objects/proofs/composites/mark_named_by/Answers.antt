@@ -4,11 +4,10 @@ use mathlib.Core.List.{map}
 use Rattle.record.specs.Files.{files_of}
 use Rattle.keys.proofs.LentLaws.{table-room}
 use Rattle.objects.specs.Rules.{named_by}
-use borrow.Author.Rules.{rules}
 use Rattle.objects.proofs.composites.mark_named_by.Goals as goal
 
 pub mark_used-requires : goal.mark_used-requires
-mark_used-requires c =    let p = c.requires in
+mark_used-requires c = let p = c.requires in
     (p.0, p.1, table-room (files_of (map (λ x. x.now) c.args.files)) c.file_of.ensures p.2)
 
 pub returns : goal.returns

@@ -4,9 +4,8 @@ use Prim.Native.Nat.{◌+◌, ◌-◌}
 use mathlib.Core.List.{map}
 use Rattle.record.specs.Table.{file_count}
 use Rattle.record.specs.Files.{files_of, delivery_of}
-use Rattle.objects.specs.machinery.Findings.{objects_in, objects_finding}
-use Rattle.keys.proofs.OverLaws.{Onward, files-start, files-more, files-here, files-end}
-use borrow.Author.Rules.{rules}
+use Rattle.objects.specs.machinery.Findings.{objects_in}
+use Rattle.keys.proofs.OverLaws.{Onward}
 use Rattle.objects.proofs.group.check_objects.Given as goal
 
 abbrev pub invariant-loop-n : goal.invariant-loop-n

@@ -2,7 +2,6 @@
 -- Assumes nothing.
 use mathlib.Core.Path.{◌∙◌}
 use Rattle.objects.proofs.SeventyLaws.{own-tally}
-use borrow.Author.Rules.{rules}
 use Rattle.objects.proofs.group.check_which.Goals as goal
 
 pub check_file-requires : goal.check_file-requires

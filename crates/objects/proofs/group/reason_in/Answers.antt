@@ -1,7 +1,6 @@
 -- `objects::group::reason_in` meets its contract: each number's reason.
 -- Assumes nothing.
 use Rattle.objects.proofs.SeventyLaws.{reason-else}
-use borrow.Author.Rules.{rules}
 use Rattle.objects.proofs.group.reason_in.Goals as goal
 
 pub returns-in_default : goal.returns-in_default

@@ -1,7 +1,6 @@
 -- `objects::group::tally_objects` meets its contract: the composites have a rule, the other files none.
 -- Assumes nothing.
 use Rattle.objects.proofs.SeventyLaws.{all-tallies}
-use borrow.Author.Rules.{rules}
 use Rattle.objects.proofs.group.tally_objects.Goals as goal
 
 pub returns : goal.returns

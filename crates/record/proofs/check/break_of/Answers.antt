@@ -1,6 +1,5 @@
 -- `record::check::break_of` meets its contract.
 -- Assumes nothing.
-use borrow.Author.Rules.{rules}
 use Rattle.record.proofs.check.break_of.Goals as goal
 
 pub returns : goal.returns

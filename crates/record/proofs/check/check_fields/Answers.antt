@@ -1,11 +1,7 @@
 -- `record::check::check_fields` meets its contract: the loop stops at the first record that is broken.
 -- Assumes nothing.
-use Prim.Native.Nat.{◌≤◌, ◌-◌}
-use mathlib.Core.Option.{none}
 use mathlib.Core.Path.{◌≡◌, ◌∙◌, sym}
-use borrow.Author.Rules.{rules}
 use native.Mathlib.Omega.{arith}
-use Rattle.laws.specs.Find.{first_of}
 use Rattle.laws.proofs.FindLaws.{first-start}
 use Rattle.record.specs.Cut.{count_of}
 use Rattle.record.specs.Breaks.{finding_of}
@@ -42,7 +38,7 @@ returns-else-is_fine c =
     (omega (arith, c.records-n.ensures)) ∙ sym (fields-is a.s.now a.k)
 
 pub returns : goal.returns
-returns c =    let a = c.args in
+returns c = let a = c.args in
     let l = c.loop-i in
     finding-end _ (count_of a.s.now a.k) c.records-n.ensures l.invariant.0 c.loop-i-test.false l.invariant.1
     ∙ sym (fields-is a.s.now a.k)

@@ -2,14 +2,9 @@
 -- Assumes nothing.
 use Prim.Native.Nat.{◌≤◌, ◌-◌}
 use mathlib.Core.Option.{none}
-use mathlib.Core.Path.{◌≡◌, ◌∙◌, sym}
-use borrow.Author.Rules.{rules}
-use native.Mathlib.Omega.{arith}
+use mathlib.Core.Path.{◌≡◌}
 use Rattle.laws.specs.Find.{first_of}
-use Rattle.laws.proofs.FindLaws.{first-start}
-use Rattle.record.specs.Cut.{count_of}
-use Rattle.record.specs.Breaks.{finding_of}
-use Rattle.record.proofs.FindingLaws.{in_file, fields-is, record-turn, finding-more, finding-here, finding-end}
+use Rattle.record.proofs.FindingLaws.{in_file}
 use Rattle.record.proofs.check.check_fields.Given as goal
 
 abbrev pub invariant-loop-i : goal.invariant-loop-i

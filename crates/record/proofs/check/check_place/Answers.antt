@@ -2,7 +2,6 @@
 -- Assumes nothing.
 use mathlib.Core.Path.{◌≡◌, ◌∙◌}
 use lib.ListN.{length}
-use borrow.Author.Rules.{rules}
 use Rattle.record.specs.Rules.{twenties}
 use Rattle.record.specs.Breaks.{index_of, twenty_reasons}
 use Rattle.record.proofs.FindingLaws.{place-broken, place-fine}

@@ -1,11 +1,8 @@
 -- `record::check::check_record` meets its contract: where a glance is not enough, the loop stops at the first place that is broken.
 -- Assumes nothing.
-use Prim.Native.Nat.{◌≤◌, ◌+◌, ◌-◌}
-use mathlib.Core.Option.{none}
+use Prim.Native.Nat.{◌+◌}
 use mathlib.Core.Path.{◌≡◌, ◌∙◌, sym}
-use borrow.Author.Rules.{rules}
 use native.Mathlib.Omega.{arith}
-use Rattle.laws.specs.Find.{first_of}
 use Rattle.laws.proofs.FindLaws.{first-start}
 use Rattle.record.specs.Table.{fields_of}
 use Rattle.record.specs.Breaks.{finding_of}
@@ -26,7 +23,7 @@ pub check_place-v-requires : goal.check_place-v-requires
 check_place-v-requires c = omega (arith, c.fields-n.ensures, sane c.args.k)
 
 pub overflow_add-f : goal.overflow_add-f
-overflow_add-f c =    omega (arith, c.fields-n.ensures, sane c.args.k)
+overflow_add-f c = omega (arith, c.fields-n.ensures, sane c.args.k)
 
 pub loop-f-smaller : goal.loop-f-smaller
 loop-f-smaller c = omega arith
@@ -49,6 +46,6 @@ returns-else-is_fine c =
     (omega (arith, c.fields-n.ensures)) ∙ sym (record_is a.rec.now a.k a.i)
 
 pub returns : goal.returns
-returns c =    let a = c.args in
+returns c = let a = c.args in
     let l = c.loop-f in
     finding-end _ (fields_of a.k + 1) (omega (arith, c.fields-n.ensures)) l.invariant.0 c.loop-f-test.false l.invariant.1 ∙ sym (record_is a.rec.now a.k a.i)

@@ -1,16 +1,10 @@
 -- `record::check::check_record` meets its contract: where a glance is not enough, the loop stops at the first place that is broken.
 -- Assumes nothing.
-use Prim.Native.Nat.{◌≤◌, ◌+◌, ◌-◌}
+use Prim.Native.Nat.{◌≤◌, ◌-◌}
 use mathlib.Core.Option.{none}
-use mathlib.Core.Path.{◌≡◌, ◌∙◌, sym}
-use borrow.Author.Rules.{rules}
-use native.Mathlib.Omega.{arith}
+use mathlib.Core.Path.{◌≡◌}
 use Rattle.laws.specs.Find.{first_of}
-use Rattle.laws.proofs.FindLaws.{first-start}
-use Rattle.record.specs.Table.{fields_of}
-use Rattle.record.specs.Breaks.{finding_of}
-use Rattle.record.proofs.TableLaws.{sane}
-use Rattle.record.proofs.FindingLaws.{in_record, record_is, place-turn, finding-more, finding-here, finding-end}
+use Rattle.record.proofs.FindingLaws.{in_record}
 use Rattle.record.proofs.check.check_record.Given as goal
 
 abbrev pub invariant-loop-f : goal.invariant-loop-f

@@ -4,11 +4,8 @@ use Prim.Native.Nat.{◌≤◌, ◌-◌}
 use mathlib.Core.Bool.{false}
 use mathlib.Core.Option.{none}
 use mathlib.Core.Path.{◌≡◌}
-use native.Mathlib.Omega.{arith}
 use lib.ListN.{length, get_or}
 use Rattle.laws.specs.Find.{first_index}
-use Rattle.laws.proofs.FindLaws.{index-start, index-more}
-use Rattle.record.proofs.FindingLaws.{test-here, test-end}
 use Rattle.record.proofs.check.first_true.Given as goal
 
 abbrev pub invariant-loop-j : goal.invariant-loop-j

@@ -3,9 +3,8 @@
 use Prim.Native.Nat.{◌-◌}
 use mathlib.Core.Path.{◌≡◌}
 use native.Mathlib.Omega.{arith}
-use borrow.Author.Rules.{rules}
 use Rattle.record.proofs.columns.field_before.Goals as goal
 
 pub returns-else-f-gt0 : goal.returns-else-f-gt0
-returns-else-f-gt0 c =    let e : c.args.f - 1 ≡ 0 = omega arith in
+returns-else-f-gt0 c = let e : c.args.f - 1 ≡ 0 = omega arith in
     rw e c.field-else-f-gt0.ensures

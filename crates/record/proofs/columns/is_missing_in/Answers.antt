@@ -2,15 +2,14 @@
 -- Assumes nothing.
 use mathlib.Core.Path.{◌∙◌}
 use mathlib.Core.List.{[]}
-use borrow.Author.Rules.{rules}
 use Rattle.record.proofs.SaysLaws.{missing-sign, missing-other}
 use borrow.Enum.Refused.{opened}
 use Rattle.record.proofs.columns.is_missing_in.Goals as goal
 
 pub returns-in-Sign : goal.returns-in-Sign
-returns-in-Sign c =    let a = c.args in
+returns-in-Sign c = let a = c.args in
     missing-sign a.t.now [] a.form c.in-Sign.is
 
 pub returns-in_default : goal.returns-in_default
-returns-in_default c =    let a = c.args in
+returns-in_default c = let a = c.args in
     c.all.ensures ∙ missing-other a.t.now [] a.form (opened c.in_default.in_default-own.keys2)

@@ -4,7 +4,6 @@ use mathlib.Core.Path.{ap, ◌∙◌}
 use Rattle.record.specs.Table.{is_n}
 use Rattle.record.specs.Says.{said_in}
 use Rattle.record.proofs.SaysLaws.{key-before}
-use borrow.Author.Rules.{rules}
 use Rattle.record.proofs.columns.key.Goals as goal
 
 pub returns : goal.returns

@@ -1,7 +1,6 @@
 -- `record::columns::key_at_once` meets its contract: a number that is read at once is what is said.
 -- Assumes nothing.
 use Rattle.record.proofs.SaysLaws.{number-once}
-use borrow.Author.Rules.{rules}
 use Rattle.record.proofs.columns.key_at_once.Goals as goal
 
 pub returns-in-Number : goal.returns-in-Number

@@ -2,7 +2,6 @@
 -- Assumes nothing.
 use Rattle.record.specs.Says.{said_in}
 use Rattle.record.proofs.SaysLaws.{number-before}
-use borrow.Author.Rules.{rules}
 use Rattle.record.proofs.columns.number.Goals as goal
 
 pub returns : goal.returns

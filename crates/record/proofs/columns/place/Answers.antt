@@ -1,7 +1,6 @@
 -- `record::columns::place` meets its contract.
 -- Assumes nothing.
 use Rattle.record.specs.Says.{said_in}
-use borrow.Author.Rules.{rules}
 use Rattle.record.proofs.columns.place.Goals as goal
 
 pub returns : goal.returns

@@ -1,6 +1,5 @@
 -- `record::columns::quick_key` meets its contract: what is read at once, else as `key_in`.
 -- Assumes nothing.
-use borrow.Author.Rules.{rules}
 use Rattle.record.proofs.columns.quick_key.Goals as goal
 
 pub returns-else-x-eq0 : goal.returns-else-x-eq0

@@ -1,7 +1,6 @@
 -- `record::columns::quick_number` meets its contract: what is read at once, else as `number_in`.
 -- Assumes nothing.
 use native.Mathlib.Omega.{arith}
-use borrow.Author.Rules.{rules}
 use Rattle.record.proofs.columns.quick_number.Goals as goal
 
 pub returns-else-x-eq0 : goal.returns-else-x-eq0

@@ -1,6 +1,5 @@
 -- `record::columns::quick_place` meets its contract: what is read at once, else as `place_in`.
 -- Assumes nothing.
-use borrow.Author.Rules.{rules}
 use Rattle.record.proofs.columns.quick_place.Goals as goal
 
 pub returns-else-x-eq0 : goal.returns-else-x-eq0

@@ -1,15 +1,12 @@
 -- `record::count::count_fields` meets its contract. The loop's invariant: the first `i` records have `many` breaks.
 -- Assumes nothing.
 use Prim.Native.Nat.{◌≤◌, ◌-◌, ◌*◌}
-use mathlib.Core.Path.{◌≡◌, refl}
-use native.Mathlib.Omega.{arith}
-use borrow.Author.Rules.{rules}
+use mathlib.Core.Path.{◌≡◌}
 use Rattle.laws.specs.Count.{sum_of}
-use Rattle.laws.proofs.SumLaws.{sum_more, sum-end}
 use Rattle.record.specs.Table.{limit}
 use Rattle.record.specs.Cut.{record_of}
 use Rattle.record.specs.Says.{table_of}
-use Rattle.record.specs.machinery.Counts.{record_many, fields_many}
+use Rattle.record.specs.machinery.Counts.{record_many}
 use Rattle.record.proofs.count.count_fields.Given as goal
 
 abbrev pub invariant-loop-i : goal.invariant-loop-i

@@ -1,15 +1,10 @@
 -- `record::count::count_record` meets its contract. The loop's invariant: the first `f` places have `many` breaks.
 -- Assumes nothing.
 use Prim.Native.Nat.{◌≤◌, ◌+◌, ◌-◌, ◌*◌}
-use mathlib.Core.Path.{◌≡◌, refl}
-use native.Mathlib.Omega.{arith}
-use borrow.Author.Rules.{rules}
+use mathlib.Core.Path.{◌≡◌}
 use Rattle.laws.specs.Count.{sum_of}
-use Rattle.laws.proofs.SumLaws.{sum_more, sum-end}
 use Rattle.record.specs.Table.{fields_of}
-use Rattle.record.specs.machinery.Counts.{place_many, record_many}
-use Rattle.record.proofs.TableLaws.{sane}
-use Rattle.record.proofs.CountingLaws.{fine-many}
+use Rattle.record.specs.machinery.Counts.{place_many}
 use Rattle.record.proofs.count.count_record.Given as goal
 
 abbrev pub invariant-loop-f : goal.invariant-loop-f

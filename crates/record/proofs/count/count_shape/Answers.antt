@@ -1,7 +1,6 @@
 -- `record::count::count_shape` meets its contract.
 -- Assumes nothing.
 use native.Mathlib.Omega.{arith}
-use borrow.Author.Rules.{rules}
 use Rattle.record.specs.Rules.{breaks10, breaks11}
 use Rattle.record.specs.machinery.Counts.{shape_many}
 use Rattle.record.proofs.TableLaws.{sane}
@@ -15,5 +14,5 @@ nonzero_rem-s c = omega (arith, c.length-n.ensures, sane c.args.k)
 
 pub returns : goal.returns
 unfolding shape_many breaks10 breaks11
-returns c =    let e = c.length-n.ensures in
+returns c = let e = c.length-n.ensures in
     rw (c.one_if-2.ensures.value, c.one_if.ensures.value, e)

@@ -1,11 +1,7 @@
 -- `record::count::count_true` meets its contract. The loop's invariant: `many` of the first `j` tests hold.
 -- Assumes nothing.
-use Prim.Native.Nat.{◌-◌, ◌≤◌}
-use mathlib.Core.Bool.{false}
-use mathlib.Core.Path.{◌≡◌, refl}
+use mathlib.Core.Path.{refl}
 use native.Mathlib.Omega.{arith}
-use lib.ListN.{length, get_or}
-use borrow.Author.Rules.{rules}
 use Rattle.laws.specs.Count.{how_many}
 use Rattle.laws.proofs.CountLaws.{count-more, count-end}
 use Rattle.record.proofs.count.count_true.Goals as goal
@@ -27,11 +23,11 @@ pub loop-j-smaller : goal.loop-j-smaller
 loop-j-smaller c = omega arith
 
 pub loop-j-preserved : goal.loop-j-preserved
-loop-j-preserved c =    let l = c.loop-j in (
-      omega arith,
-      omega (arith, l.invariant.1, c.one_if-many.ensures.most),
-      rw (count-more, ← l.invariant.2, c.one_if-many.ensures.value),
-    )
+loop-j-preserved c = let l = c.loop-j in (
+  omega arith,
+  omega (arith, l.invariant.1, c.one_if-many.ensures.most),
+  rw (count-more, ← l.invariant.2, c.one_if-many.ensures.value),
+)
 
 pub returns : goal.returns
-returns c =    let l = c.loop-j in record { value = count-end _ l.invariant.0 c.loop-j-test.false l.invariant.2; most = omega (arith, l.invariant.0, l.invariant.1) }
+returns c = let l = c.loop-j in record { value = count-end _ l.invariant.0 c.loop-j-test.false l.invariant.2; most = omega (arith, l.invariant.0, l.invariant.1) }

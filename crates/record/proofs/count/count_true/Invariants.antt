@@ -2,12 +2,9 @@
 -- Assumes nothing.
 use Prim.Native.Nat.{◌-◌, ◌≤◌}
 use mathlib.Core.Bool.{false}
-use mathlib.Core.Path.{◌≡◌, refl}
-use native.Mathlib.Omega.{arith}
+use mathlib.Core.Path.{◌≡◌}
 use lib.ListN.{length, get_or}
-use borrow.Author.Rules.{rules}
 use Rattle.laws.specs.Count.{how_many}
-use Rattle.laws.proofs.CountLaws.{count-more, count-end}
 use Rattle.record.proofs.count.count_true.Given as goal
 
 abbrev pub invariant-loop-j : goal.invariant-loop-j

@@ -1,7 +1,6 @@
 -- `record::cut::field` meets its contract.
 -- Assumes nothing.
 use Rattle.record.specs.Cut.{text_of}
-use borrow.Author.Rules.{rules}
 use Rattle.record.proofs.cut.field.Goals as goal
 
 pub returns : goal.returns

@@ -1,7 +1,6 @@
 -- `record::cut::part` meets its contract.
 -- Assumes nothing.
 use native.Mathlib.Nat.{add-sub_cancel_left}
-use borrow.Author.Rules.{rules}
 use Rattle.record.proofs.CutLaws.{part-past, part_left}
 use Rattle.record.proofs.cut.part.Goals as goal
 

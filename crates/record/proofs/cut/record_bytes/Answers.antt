@@ -4,22 +4,21 @@ use mathlib.Core.Path.{sym}
 use native.Mathlib.Nat.{add-sub_cancel_left}
 use native.Mathlib.Omega.{arith}
 use Rattle.record.proofs.CutLaws.{record-part, record-past, end-small, end-within, end-past}
-use borrow.Author.Rules.{rules}
 use Rattle.record.proofs.cut.record_bytes.Goals as goal
 
 pub overflow_mul-a : goal.overflow_mul-a
-overflow_mul-a c =    let a = c.args in
+overflow_mul-a c = let a = c.args in
     omega (arith, end-small a.k a.i c.length-n.ensures c.if-i-lt65536.true)
 
 pub overflow_add-e : goal.overflow_add-e
-overflow_add-e c =    let a = c.args in
+overflow_add-e c = let a = c.args in
     omega (arith, end-small a.k a.i c.length-n.ensures c.if-i-lt65536.true)
 
 pub returns-then-e-s : goal.returns-then-e-s
-returns-then-e-s c =    let n = c.length-n in
+returns-then-e-s c = let n = c.length-n in
     let a = c.args in
     simp add-sub_cancel_left (record-part a.s.now a.k a.i (end-within a.k a.i n.ensures a.s.now c.if-e-s.true) n.ensures)
 
 pub returns-else-e-s : goal.returns-else-e-s
-returns-else-e-s c =    let a = c.args in
+returns-else-e-s c = let a = c.args in
     sym (record-past a.s.now a.k a.i (end-past a.k a.i c.length-n.ensures a.s.now c.if-e-s.false))

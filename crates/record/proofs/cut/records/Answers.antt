@@ -2,7 +2,6 @@
 -- Assumes nothing.
 use native.Mathlib.Omega.{arith}
 use Rattle.record.specs.Cut.{count_of}
-use borrow.Author.Rules.{rules}
 use Rattle.record.proofs.TableLaws.{sane}
 use Rattle.record.proofs.cut.records.Goals as goal
 

@@ -1,21 +1,16 @@
 -- `record::files::all_few` meets its contract. The loop's invariant: the files before number `n` have no more.
 -- Assumes nothing.
-use Prim.Native.Nat.{◌+◌, ◌-◌}
-use mathlib.Core.List.{map}
 use mathlib.Core.Path.{sym}
 use native.Mathlib.Omega.{arith}
-use borrow.Author.Rules.{rules}
 use Rattle.laws.proofs.FindLaws.{true-false}
-use Rattle.record.specs.Table.{file_count}
-use Rattle.record.specs.Files.{files_of, delivery_of}
-use Rattle.record.proofs.FileLaws.{FewBefore, few-start, few-more, few-end}
+use Rattle.record.proofs.FileLaws.{few-start, few-more, few-end}
 use Rattle.record.proofs.files.all_few.Goals as goal
 
 pub loop-n-init : goal.loop-n-init
 loop-n-init c = few-start _
 
 pub loop-n-preserved : goal.loop-n-preserved
-loop-n-preserved c =    few-more c.loop-n.invariant (omega arith) c.kind_of.ensures (c.is_few.ensures c.if-is_few.true)
+loop-n-preserved c = few-more c.loop-n.invariant (omega arith) c.kind_of.ensures (c.is_few.ensures c.if-is_few.true)
 
 pub returns-else-is_few : goal.returns-else-is_few
 returns-else-is_few c = λ e. absurd (true-false (sym e))

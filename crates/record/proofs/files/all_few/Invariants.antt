@@ -2,13 +2,9 @@
 -- Assumes nothing.
 use Prim.Native.Nat.{◌+◌, ◌-◌}
 use mathlib.Core.List.{map}
-use mathlib.Core.Path.{sym}
-use native.Mathlib.Omega.{arith}
-use borrow.Author.Rules.{rules}
-use Rattle.laws.proofs.FindLaws.{true-false}
 use Rattle.record.specs.Table.{file_count}
 use Rattle.record.specs.Files.{files_of, delivery_of}
-use Rattle.record.proofs.FileLaws.{FewBefore, few-start, few-more, few-end}
+use Rattle.record.proofs.FileLaws.{FewBefore}
 use Rattle.record.proofs.files.all_few.Given as goal
 
 abbrev pub invariant-loop-n : goal.invariant-loop-n

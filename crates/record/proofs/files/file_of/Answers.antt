@@ -1,7 +1,6 @@
 -- `record::files::file_of` meets its contract: a kind's number, less one, is a place of the array.
 -- Assumes nothing.
 use native.Mathlib.Omega.{arith}
-use borrow.Author.Rules.{rules}
 use Rattle.record.specs.Files.{files_of}
 use Rattle.record.proofs.TableLaws.{sane}
 use Rattle.record.proofs.FileLaws.{inside}
@@ -18,5 +17,5 @@ bounds-files-n c = omega (arith, sane c.args.k)
 
 pub returns : goal.returns
 unfolding files_of
-returns c =    let a = c.args in
+returns c = let a = c.args in
     rw (← c.number-n.ensures) (inside (λ x. x.now) c.args.files _ _ _ (omega (arith, sane a.k)))

@@ -1,7 +1,6 @@
 -- `record::files::is_few` meets its contract: a kind gives how many records its file has.
 -- Assumes nothing.
-use Rattle.record.proofs.FileLaws.{few-none, few-file}
-use borrow.Author.Rules.{rules}
+use Rattle.record.proofs.FileLaws.{few-file}
 use Rattle.record.proofs.files.is_few.Goals as goal
 
 pub returns-in-File : goal.returns-in-File

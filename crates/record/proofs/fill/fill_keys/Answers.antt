@@ -2,7 +2,6 @@
 -- Assumes nothing.
 use mathlib.Core.Path.{◌∙◌}
 use Rattle.record.proofs.ColumnLaws.{keys-names}
-use borrow.Author.Rules.{rules}
 use Rattle.record.proofs.fill.fill_keys.Goals as goal
 
 pub returns-else-keys-eq2 : goal.returns-else-keys-eq2

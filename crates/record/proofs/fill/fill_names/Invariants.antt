@@ -1,11 +1,9 @@
 -- `fill_names` meets its contract: the loop has read the names of the records before i, and stands at record i.
 -- Assumes nothing.
 use Prim.Native.Nat.{◌-◌}
-use native.Mathlib.Omega.{arith}
-use borrow.Author.Rules.{rules}
 use Rattle.record.specs.Says.{table_of}
 use Rattle.record.specs.Names.{name_at}
-use Rattle.record.proofs.ColumnLaws.{Filling, filling-none, filling-more, filling-all, read_none, Starts, starts_first, starts-next, cut_field, cut-room, key-cut}
+use Rattle.record.proofs.ColumnLaws.{Filling, Starts}
 use Rattle.record.proofs.fill.fill_names.Given as goal
 
 abbrev pub invariant-loop-i : goal.invariant-loop-i

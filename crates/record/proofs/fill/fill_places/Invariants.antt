@@ -2,13 +2,8 @@
 -- Assumes nothing.
 use Prim.Native.Nat.{◌-◌, ◌^◌}
 use Rattle.laws.specs.Row.{Narrow}
-use Rattle.laws.proofs.RowLaws.{narrow_start, narrow-more, narrow-end}
-use mathlib.Core.Path.{ap, ◌∙◌}
-use native.Mathlib.Omega.{arith}
-use borrow.Author.Rules.{rules}
-use Rattle.record.specs.Table.{offset_at, width_at}
 use Rattle.record.specs.Says.{table_of, place_in}
-use Rattle.record.proofs.ColumnLaws.{Filling, filling-none, filling-more, filling-all, read_none, Starts, starts_first, starts-next, cut_field, cut-room, place-cut}
+use Rattle.record.proofs.ColumnLaws.{Filling, Starts}
 use Rattle.record.proofs.fill.fill_places.Given as goal
 
 abbrev pub invariant-loop-i : goal.invariant-loop-i

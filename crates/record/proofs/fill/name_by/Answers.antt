@@ -1,7 +1,6 @@
 -- `name_by` meets its contract: what is said, where that is something, is the name.
 -- Assumes nothing.
 use Rattle.record.proofs.NameLaws.{name-there}
-use borrow.Author.Rules.{rules}
 use Rattle.record.proofs.fill.name_by.Goals as goal
 
 pub returns-else-x-eq0 : goal.returns-else-x-eq0

@@ -9,7 +9,6 @@ use Rattle.record.specs.Table.{col_at, offset_at}
 use Rattle.record.specs.machinery.Glance.{full_or_blank}
 use Rattle.record.proofs.GlanceLaws.{seen_end, seen-fine, seen_none}
 use Rattle.record.proofs.GlanceSeen.{seen-code, seen-need-in, seen-words, seen_last}
-use borrow.Author.Rules.{rules}
 use Rattle.record.proofs.glance.catalogo.Goals as goal
 
 pub returns-then-rec-ne133 : goal.returns-then-rec-ne133
@@ -17,7 +16,7 @@ returns-then-rec-ne133 c = seen_none _ Catalogo
 
 pub returns : goal.returns
 unfolding col_at offset_at
-returns c =    let s = c.args.rec.now in
+returns c = let s = c.args.rec.now in
     let p0 = seen_end s Catalogo c.ends.ensures in
     let p1 = seen-code s Catalogo 1 p0 refl c.code.ensures in
     let p2 = seen-need-in s Catalogo 2 p1 Words ObjectType 1 refl refl refl c.need_in.ensures in

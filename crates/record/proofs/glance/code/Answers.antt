@@ -1,7 +1,6 @@
 -- `record::glance::code` meets its contract.
 -- Assumes nothing.
 use Rattle.record.specs.machinery.Glance.{code_at}
-use borrow.Author.Rules.{rules}
 use Rattle.record.proofs.glance.code.Goals as goal
 
 pub returns : goal.returns

@@ -1,7 +1,6 @@
 -- `record::glance::ends` meets its contract.
 -- Assumes nothing.
 use Rattle.record.specs.machinery.Glance.{end_at}
-use borrow.Author.Rules.{rules}
 use Rattle.record.proofs.glance.ends.Goals as goal
 
 pub returns : goal.returns

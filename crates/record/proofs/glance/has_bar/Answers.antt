@@ -1,7 +1,6 @@
 -- `record::glance::has_bar` meets its contract.
 -- Assumes nothing.
 use Rattle.record.specs.machinery.Glance.{bar_at}
-use borrow.Author.Rules.{rules}
 use Rattle.record.proofs.glance.has_bar.Goals as goal
 
 pub returns : goal.returns

@@ -1,7 +1,6 @@
 -- `record::glance::is_full` meets its contract.
 -- Assumes nothing.
 use Rattle.record.specs.machinery.Glance.{full}
-use borrow.Author.Rules.{rules}
 use Rattle.record.proofs.glance.is_full.Goals as goal
 
 pub returns : goal.returns

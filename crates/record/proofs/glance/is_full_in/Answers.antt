@@ -1,7 +1,6 @@
 -- `record::glance::is_full_in` meets its contract.
 -- Assumes nothing.
 use Rattle.record.specs.machinery.Glance.{full_in}
-use borrow.Author.Rules.{rules}
 use Rattle.record.proofs.glance.is_full_in.Goals as goal
 
 pub returns : goal.returns

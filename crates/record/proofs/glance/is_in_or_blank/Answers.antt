@@ -1,7 +1,6 @@
 -- `record::glance::is_in_or_blank` meets its contract.
 -- Assumes nothing.
 use Rattle.record.specs.machinery.Glance.{in_or_blank}
-use borrow.Author.Rules.{rules}
 use Rattle.record.proofs.glance.is_in_or_blank.Goals as goal
 
 pub returns : goal.returns

@@ -1,7 +1,6 @@
 -- `record::glance::is_sign` meets its contract.
 -- Assumes nothing.
 use Rattle.record.specs.machinery.Glance.{sign_in}
-use borrow.Author.Rules.{rules}
 use Rattle.record.proofs.glance.is_sign.Goals as goal
 
 pub returns : goal.returns

@@ -1,7 +1,6 @@
 -- `record::glance::may` meets its contract.
 -- Assumes nothing.
 use Rattle.record.specs.machinery.Glance.{may_at}
-use borrow.Author.Rules.{rules}
 use Rattle.record.proofs.glance.may.Goals as goal
 
 pub returns : goal.returns

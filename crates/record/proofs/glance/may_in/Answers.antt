@@ -1,7 +1,6 @@
 -- `record::glance::may_in` meets its contract.
 -- Assumes nothing.
 use Rattle.record.specs.machinery.Glance.{may_in_at}
-use borrow.Author.Rules.{rules}
 use Rattle.record.proofs.glance.may_in.Goals as goal
 
 pub returns : goal.returns

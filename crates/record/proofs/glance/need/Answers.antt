@@ -1,7 +1,6 @@
 -- `record::glance::need` meets its contract.
 -- Assumes nothing.
 use Rattle.record.specs.machinery.Glance.{need_at}
-use borrow.Author.Rules.{rules}
 use Rattle.record.proofs.glance.need.Goals as goal
 
 pub returns : goal.returns

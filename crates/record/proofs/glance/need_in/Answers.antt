@@ -1,7 +1,6 @@
 -- `record::glance::need_in` meets its contract.
 -- Assumes nothing.
 use Rattle.record.specs.machinery.Glance.{need_in_at}
-use borrow.Author.Rules.{rules}
 use Rattle.record.proofs.glance.need_in.Goals as goal
 
 pub returns : goal.returns

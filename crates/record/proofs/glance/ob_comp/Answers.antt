@@ -5,7 +5,6 @@ use Rattle.record.specs.declared.kind.Kind.TheVariants.{ObComp}
 use Rattle.record.specs.Table.{col_at, offset_at}
 use Rattle.record.proofs.GlanceLaws.{seen_end, seen-fine, seen_none}
 use Rattle.record.proofs.GlanceSeen.{seen-need, seen-code, seen-words, seen-centroid}
-use borrow.Author.Rules.{rules}
 use Rattle.record.proofs.glance.ob_comp.Goals as goal
 
 pub returns-then-rec-ne117 : goal.returns-then-rec-ne117
@@ -13,7 +12,7 @@ returns-then-rec-ne117 c = seen_none _ ObComp
 
 pub returns : goal.returns
 unfolding col_at offset_at
-returns c =    let s = c.args.rec.now in
+returns c = let s = c.args.rec.now in
     let p0 = seen_end s ObComp c.ends.ensures in
     let p1 = seen-need s ObComp 1 p0 10 refl c.need.ensures in
     let p2 = seen-code s ObComp 2 p1 refl c.code.ensures in

@@ -7,7 +7,6 @@ use Rattle.record.specs.declared.kind.Domain.TheVariants.{Orientation}
 use Rattle.record.specs.Table.{col_at, offset_at}
 use Rattle.record.proofs.GlanceLaws.{seen_end, seen-fine, seen_none}
 use Rattle.record.proofs.GlanceSeen.{seen-need, seen-may, seen-may-in, seen-code, seen-words, seen-position}
-use borrow.Author.Rules.{rules}
 use Rattle.record.proofs.glance.ob_pun.Goals as goal
 
 pub returns-then-rec-ne149 : goal.returns-then-rec-ne149
@@ -15,7 +14,7 @@ returns-then-rec-ne149 c = seen_none _ ObPun
 
 pub returns : goal.returns
 unfolding col_at offset_at
-returns c =    let s = c.args.rec.now in
+returns c = let s = c.args.rec.now in
     let p0 = seen_end s ObPun c.ends.ensures in
     let p1 = seen-need s ObPun 1 p0 10 refl c.need.ensures in
     let p2 = seen-may s ObPun 2 p1 10 refl c.may.ensures in

@@ -1,6 +1,5 @@
 -- `record::glance::plainly_lawful` meets its contract.
 -- Assumes nothing.
-use borrow.Author.Rules.{rules}
 use Rattle.record.proofs.glance.plainly_lawful.Goals as goal
 
 pub returns-in-Catalogo : goal.returns-in-Catalogo

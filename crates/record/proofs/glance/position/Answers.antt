@@ -4,7 +4,6 @@ use mathlib.Core.Path.{sym}
 use Rattle.laws.proofs.FindLaws.{true-false}
 use Rattle.record.specs.machinery.Glance.{position_at}
 use Rattle.record.proofs.GlanceSeen.{position-inside}
-use borrow.Author.Rules.{rules}
 use Rattle.record.proofs.glance.position.Goals as goal
 
 pub returns-then-t-ne35 : goal.returns-then-t-ne35
@@ -12,5 +11,5 @@ returns-then-t-ne35 c e = absurd (true-false (sym e))
 
 pub returns : goal.returns
 unfolding position_at
-returns c e =    let a = c.args in
+returns c e = let a = c.args in
     rw (← position-inside a.rec.now a.o, ← c.part-t.ensures) (rw (c.gone.ensures, c.signed-3.ensures, c.has_bar-2.ensures, c.signed-2.ensures, c.has_bar.ensures, c.signed.ensures) at e)

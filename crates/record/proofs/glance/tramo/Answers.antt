@@ -8,7 +8,6 @@ use Rattle.record.specs.Table.{col_at, offset_at}
 use Rattle.record.specs.machinery.Glance.{in_or_blank}
 use Rattle.record.proofs.GlanceLaws.{seen_end, seen-fine, seen_none}
 use Rattle.record.proofs.GlanceSeen.{seen-need, seen-may, seen-code, seen-last-in}
-use borrow.Author.Rules.{rules}
 use Rattle.record.proofs.glance.tramo.Goals as goal
 
 pub returns-then-rec-ne77 : goal.returns-then-rec-ne77
@@ -16,7 +15,7 @@ returns-then-rec-ne77 c = seen_none _ Tramo
 
 pub returns : goal.returns
 unfolding col_at offset_at
-returns c =    let s = c.args.rec.now in
+returns c = let s = c.args.rec.now in
     let p0 = seen_end s Tramo c.ends.ensures in
     let p1 = seen-need s Tramo 1 p0 10 refl c.need.ensures in
     let p2 = seen-need s Tramo 2 p1 10 refl c.need-2.ensures in

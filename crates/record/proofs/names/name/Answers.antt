@@ -1,6 +1,5 @@
 -- `name` meets its contract: a field's key, or the record's own where that stands for it.
 -- Assumes nothing.
-use borrow.Author.Rules.{rules}
 use Rattle.record.proofs.NameLaws.{name-said}
 use Rattle.record.proofs.names.name.Goals as goal
 

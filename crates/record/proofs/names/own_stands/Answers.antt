@@ -1,7 +1,6 @@
 -- `record::names::own_stands` meets its contract.
 -- Assumes nothing.
 use mathlib.Core.Path.{sym, ◌∙◌}
-use borrow.Author.Rules.{rules}
 use Rattle.record.proofs.names.own_stands.Goals as goal
 
 pub returns-then-own : goal.returns-then-own

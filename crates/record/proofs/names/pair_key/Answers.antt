@@ -3,7 +3,6 @@
 use native.Mathlib.Omega.{arith}
 use Rattle.record.proofs.TableLaws.{pair-key}
 use Rattle.record.proofs.NameLaws.{key-pair}
-use borrow.Author.Rules.{rules}
 use Rattle.record.proofs.names.pair_key.Goals as goal
 
 pub overflow_mul-result : goal.overflow_mul-result

@@ -2,7 +2,6 @@
 -- Assumes nothing.
 use mathlib.Core.Path.{◌∙◌}
 use Rattle.record.proofs.NameLaws.{key-name}
-use borrow.Author.Rules.{rules}
 use Rattle.record.proofs.names.record_key.Goals as goal
 
 pub returns-else-keys-eq2 : goal.returns-else-keys-eq2

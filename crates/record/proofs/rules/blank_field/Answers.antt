@@ -1,6 +1,5 @@
 -- `record::rules::blank_field` meets its contract.
 -- Assumes nothing.
-use borrow.Author.Rules.{rules}
 use Rattle.record.proofs.rules.blank_field.Goals as goal
 
 pub returns : goal.returns

@@ -1,6 +1,5 @@
 -- `record::rules::minus_zero` meets its contract.
 -- Assumes nothing.
-use borrow.Author.Rules.{rules}
 use Rattle.record.proofs.RuleLaws.{no_sign_lem}
 use borrow.Enum.Refused.{opened}
 use Rattle.record.proofs.rules.minus_zero.Goals as goal

@@ -1,6 +1,5 @@
 -- `record::rules::not_number` meets its contract.
 -- Assumes nothing.
-use borrow.Author.Rules.{rules}
 use Rattle.record.proofs.rules.not_number.Goals as goal
 
 pub returns-then-is_n-blank : goal.returns-then-is_n-blank

@@ -2,7 +2,6 @@
 -- Assumes nothing.
 use mathlib.Core.Path.{◌∙◌, sym}
 use Rattle.record.specs.Rules.{not_text}
-use borrow.Author.Rules.{rules}
 use Rattle.record.proofs.rules.not_text.Goals as goal
 
 pub returns-then-is_n : goal.returns-then-is_n

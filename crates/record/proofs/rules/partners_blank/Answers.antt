@@ -1,9 +1,7 @@
 -- `record::rules::partners_blank` meets its contract: the loop stops at the first partner that is not blank.
 -- Assumes nothing.
-use Prim.Native.Nat.{◌-◌}
 use native.Mathlib.Omega.{arith}
-use borrow.Author.Rules.{rules}
-use Rattle.laws.proofs.RowLaws.{Left, left-all, left-more, left-stop, left-none}
+use Rattle.laws.proofs.RowLaws.{left-all, left-more, left-stop, left-none}
 use Rattle.field.specs.declared.class.Class.TheVariants.{Blank}
 use Rattle.field.specs.Bytes.{all_of}
 use Rattle.record.specs.Cut.{text_of}
@@ -18,7 +16,7 @@ overflow_add-n-2 c = omega arith
 
 pub loop-j-init : goal.loop-j-init
 unfolding partners_blank
-loop-j-init c =    let a = c.args in
+loop-j-init c = let a = c.args in
     left-all (all_of Blank) (text_of a.rec.now a.k) (omega arith) (omega arith)
 
 pub overflow_add-from : goal.overflow_add-from

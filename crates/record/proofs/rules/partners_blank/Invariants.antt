@@ -1,9 +1,7 @@
 -- `record::rules::partners_blank` meets its contract: the loop stops at the first partner that is not blank.
 -- Assumes nothing.
 use Prim.Native.Nat.{◌-◌}
-use native.Mathlib.Omega.{arith}
-use borrow.Author.Rules.{rules}
-use Rattle.laws.proofs.RowLaws.{Left, left-all, left-more, left-stop, left-none}
+use Rattle.laws.proofs.RowLaws.{Left}
 use Rattle.field.specs.declared.class.Class.TheVariants.{Blank}
 use Rattle.field.specs.Bytes.{all_of}
 use Rattle.record.specs.Cut.{text_of}

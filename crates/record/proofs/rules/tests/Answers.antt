@@ -12,4 +12,4 @@ lacking-requires c = record { f_bound = search rules; known = c.all-blank.ensure
 
 pub returns : goal.returns
 unfolding breaks22 breaks23 breaks24 breaks25 not_number missing_in
-returns c =    simp (c.unfit.ensures, c.lacking.ensures, c.no_bar.ensures, c.bad_end.ensures, c.says_not_given.ensures, c.not_text-no_text.ensures, c.not_number-no_number.ensures, c.all-blank.ensures, c.field-t.ensures, c.form-form.ensures)
+returns c = simp (c.unfit.ensures, c.lacking.ensures, c.no_bar.ensures, c.bad_end.ensures, c.says_not_given.ensures, c.not_text-no_text.ensures, c.not_number-no_number.ensures, c.all-blank.ensures, c.field-t.ensures, c.form-form.ensures)

@@ -1,6 +1,5 @@
 -- `record::rules::unfit` meets its contract.
 -- Assumes nothing.
-use borrow.Author.Rules.{rules}
 use Rattle.record.specs.Rules.{outside}
 use Rattle.record.proofs.rules.unfit.Goals as goal
 

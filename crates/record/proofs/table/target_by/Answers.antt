@@ -1,6 +1,5 @@
 -- `record::table::target_by` meets its contract.
 -- Assumes nothing.
-use borrow.Author.Rules.{rules}
 use borrow.Author.Tests.{eq-eqb, ne_eqb}
 use Rattle.record.specs.machinery.Packed.{target_by}
 use Rattle.record.proofs.table.target_by.Goals as goal

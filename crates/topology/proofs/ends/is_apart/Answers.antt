@@ -1,7 +1,6 @@
 -- `topology::ends::is_apart` meets its contract. An end that is gone is nowhere; another's vertex is looked up.
 -- Assumes nothing.
 use Rattle.topology.proofs.EndLaws.{apart-gone, apart-there}
-use borrow.Author.Rules.{rules}
 use Rattle.topology.proofs.ends.is_apart.Goals as goal
 
 pub returns-then-is_gone : goal.returns-then-is_gone

@@ -1,7 +1,6 @@
 -- `topology::ends::is_astray` meets its contract. It names no node, or the node is looked up.
 -- Assumes nothing.
 use Rattle.topology.proofs.EndLaws.{astray-free, astray-named}
-use borrow.Author.Rules.{rules}
 use Rattle.topology.proofs.ends.is_astray.Goals as goal
 
 pub returns-then-wanted-eq0 : goal.returns-then-wanted-eq0

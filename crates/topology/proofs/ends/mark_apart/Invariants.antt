@@ -1,21 +1,14 @@
 -- `topology::ends::mark_apart` meets its contract. The loop's invariant: the marks of the tramos before `i` say whether the end lies elsewhere than its node, and their nodes are in use.
 -- Assumes nothing.
 use Prim.Native.Nat.{◌≤◌, ◌-◌}
-use mathlib.Core.Path.{refl, ap, ◌∙◌}
 use lib.ListN.{get_or}
-use native.Mathlib.Omega.{arith}
-use Rattle.laws.specs.Count.{bit}
 use Rattle.laws.specs.Find.{names}
 use Rattle.index.specs.Keys.{listed}
 use Rattle.index.specs.Marks.{Marked}
-use Rattle.index.proofs.LookLaws.{sought-below}
-use Rattle.index.proofs.MarkLaws.{marked_start, marked_more, marked-end}
 use Rattle.record.specs.declared.kind.Kind.TheVariants.{Vertice, Nodo}
 use Rattle.record.specs.Says.{table_of}
 use Rattle.topology.specs.machinery.Ends.{apart_at}
 use Rattle.topology.specs.machinery.Used.{Used}
-use Rattle.topology.proofs.UsedLaws.{used_start, used-more, used-end}
-use borrow.Author.Rules.{rules}
 use Rattle.topology.proofs.ends.mark_apart.Given as goal
 
 abbrev pub invariant-loop-i : goal.invariant-loop-i

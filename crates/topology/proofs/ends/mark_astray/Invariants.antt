@@ -1,20 +1,14 @@
 -- `topology::ends::mark_astray` meets its contract. The loop's invariant: the marks of the point objects before `i` say 55, and how often nodes are named is counted.
 -- Assumes nothing.
 use Prim.Native.Nat.{◌≤◌, ◌-◌}
-use mathlib.Core.Path.{◌≡◌, refl, ap, ◌∙◌}
+use mathlib.Core.Path.{◌≡◌}
 use lib.ListN.{length, get_or}
-use native.Mathlib.Omega.{arith}
-use Rattle.laws.specs.Count.{bit}
 use Rattle.index.specs.Keys.{listed}
 use Rattle.index.specs.Marks.{Marked}
-use Rattle.index.proofs.LookLaws.{sought-below}
-use Rattle.index.proofs.MarkLaws.{marked_start, marked_more, marked-end}
 use Rattle.record.specs.declared.kind.Kind.TheVariants.{Nodo}
 use Rattle.record.specs.Says.{table_of}
 use Rattle.topology.specs.machinery.Ends.{astray_at}
 use Rattle.topology.specs.machinery.Used.{Counted}
-use Rattle.topology.proofs.UsedLaws.{count_long, counted-more, counted-end}
-use borrow.Author.Rules.{rules}
 use Rattle.topology.proofs.ends.mark_astray.Given as goal
 
 abbrev pub invariant-loop-i : goal.invariant-loop-i

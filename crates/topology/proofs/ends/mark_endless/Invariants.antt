@@ -1,13 +1,9 @@
 -- `topology::ends::mark_endless` meets its contract. The loop's invariant: the marks of the tramos before `i` say whether the line has no highest vertex.
 -- Assumes nothing.
 use Prim.Native.Nat.{◌-◌}
-use mathlib.Core.Path.{refl}
 use lib.Dec.{eqb}
 use lib.ListN.{get_or}
-use native.Mathlib.Omega.{arith}
 use Rattle.index.specs.Marks.{Marked}
-use Rattle.index.proofs.MarkLaws.{marked_start, marked_more, marked-end}
-use borrow.Author.Rules.{rules}
 use Rattle.topology.proofs.ends.mark_endless.Given as goal
 
 abbrev pub invariant-loop-i : goal.invariant-loop-i

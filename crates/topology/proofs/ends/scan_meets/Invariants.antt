@@ -1,13 +1,10 @@
 -- `topology::ends::scan_meets` meets its contract. The loop's invariant: no vertex before `j` meets the node.
 -- Assumes nothing.
 use Prim.Native.Nat.{◌-◌}
-use mathlib.Core.Logic.{⊎_elim}
-use mathlib.Core.Path.{◌∙◌}
 use Rattle.record.specs.declared.kind.Kind.TheVariants.{Vertice, Nodo}
 use Rattle.record.specs.Says.{table_of}
-use Rattle.index.proofs.FoundLaws.{Passed, found-start, found-more, any_found, any-end}
-use Rattle.topology.proofs.EndLaws.{meets_at, meets_any, meets-other, meets-key}
-use borrow.Author.Rules.{rules}
+use Rattle.index.proofs.FoundLaws.{Passed}
+use Rattle.topology.proofs.EndLaws.{meets_at}
 use Rattle.topology.proofs.ends.scan_meets.Given as goal
 
 abbrev pub invariant-loop-j : goal.invariant-loop-j

@@ -1,12 +1,7 @@
 -- `topology::nodes::place_before` meets its contract. None of the nodes passed is at the place.
 -- Assumes nothing.
-use Prim.Native.Nat.{◌-◌}
 use mathlib.Core.Path.{refl, sym, ◌∙◌}
-use Rattle.record.specs.declared.kind.Kind.TheVariants.{Nodo}
-use Rattle.record.specs.Says.{table_of}
-use Rattle.index.proofs.FoundLaws.{Passed, found-start, found-more, found_here, found-end}
-use Rattle.topology.specs.Rules.{same_place}
-use borrow.Author.Rules.{rules}
+use Rattle.index.proofs.FoundLaws.{found-start, found-more, found_here, found-end}
 use Rattle.topology.proofs.nodes.place_before.Goals as goal
 
 pub loop-j-init : goal.loop-j-init

@@ -1,12 +1,10 @@
 -- `topology::nodes::place_before` meets its contract. None of the nodes passed is at the place.
 -- Assumes nothing.
 use Prim.Native.Nat.{◌-◌}
-use mathlib.Core.Path.{refl, sym, ◌∙◌}
 use Rattle.record.specs.declared.kind.Kind.TheVariants.{Nodo}
 use Rattle.record.specs.Says.{table_of}
-use Rattle.index.proofs.FoundLaws.{Passed, found-start, found-more, found_here, found-end}
+use Rattle.index.proofs.FoundLaws.{Passed}
 use Rattle.topology.specs.Rules.{same_place}
-use borrow.Author.Rules.{rules}
 use Rattle.topology.proofs.nodes.place_before.Given as goal
 
 abbrev pub invariant-loop-j : goal.invariant-loop-j

@@ -1,7 +1,6 @@
 -- `topology::nodes::same_place` meets its contract.
 -- Assumes nothing.
 use Rattle.topology.specs.Rules.{same_place}
-use borrow.Author.Rules.{rules}
 use Rattle.topology.proofs.nodes.same_place.Goals as goal
 
 pub returns : goal.returns

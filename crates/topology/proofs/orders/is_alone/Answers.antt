@@ -1,7 +1,6 @@
 -- `topology::orders::is_alone` meets its contract. The order is 1 or another.
 -- Assumes nothing.
 use Rattle.topology.proofs.OrderRules.{alone-one, alone-other}
-use borrow.Author.Rules.{rules}
 use native.Mathlib.Omega.{arith}
 use Rattle.topology.proofs.orders.is_alone.Goals as goal
 

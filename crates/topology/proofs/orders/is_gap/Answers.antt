@@ -1,7 +1,6 @@
 -- `topology::orders::is_gap` meets its contract. The order is 0, over 1 or 1.
 -- Assumes nothing.
 use Rattle.topology.proofs.OrderRules.{gap-zero, gap-over, gap-one}
-use borrow.Author.Rules.{rules}
 use Rattle.topology.proofs.orders.is_gap.Goals as goal
 
 pub returns-then-x-eq0 : goal.returns-then-x-eq0

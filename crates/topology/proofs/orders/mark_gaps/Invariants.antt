@@ -1,14 +1,9 @@
 -- `topology::orders::mark_gaps` meets its contract. The loop's invariant: the marks of the vertices before `i` say 50.
 -- Assumes nothing.
 use Prim.Native.Nat.{◌-◌}
-use mathlib.Core.Path.{refl, ap, ◌∙◌}
-use Rattle.laws.specs.Count.{bit}
 use Rattle.index.specs.Keys.{listed}
 use Rattle.index.specs.Marks.{Marked}
-use Rattle.index.proofs.MarkLaws.{marked_start, marked_more, marked-end}
 use Rattle.topology.specs.Rules.{gap}
-use borrow.Author.Rules.{rules}
-use native.Mathlib.Omega.{arith}
 use Rattle.topology.proofs.orders.mark_gaps.Given as goal
 
 abbrev pub invariant-loop-i : goal.invariant-loop-i

@@ -2,13 +2,12 @@
 -- Assumes nothing.
 use Prim.Native.Nat.{◌-◌}
 use mathlib.Core.Bool.{◌&&◌}
-use borrow.Author.Rules.{rules}
 use lib.Dec.{eqb}
 use Rattle.record.specs.declared.kind.Kind.TheVariants.{Nodo}
 use Rattle.record.specs.Says.{table_of}
 use Rattle.record.specs.Names.{name_at}
-use Rattle.index.proofs.FoundLaws.{Passed, found-start, found-more, any_found, any-end}
-use Rattle.topology.specs.Rules.{x_at, y_at, node_in}
+use Rattle.index.proofs.FoundLaws.{Passed}
+use Rattle.topology.specs.Rules.{x_at, y_at}
 use Rattle.topology.proofs.places.scan_node.Given as goal
 
 abbrev pub invariant-loop-j : goal.invariant-loop-j

@@ -1,6 +1,5 @@
 -- `topology::places::x_at` meets its contract.
 -- Assumes nothing.
-use borrow.Author.Rules.{rules}
 use Rattle.topology.proofs.places.x_at.Goals as goal
 
 pub returns : goal.returns

@@ -1,6 +1,5 @@
 -- `topology::places::y_at` meets its contract.
 -- Assumes nothing.
-use borrow.Author.Rules.{rules}
 use Rattle.topology.proofs.places.y_at.Goals as goal
 
 pub returns : goal.returns

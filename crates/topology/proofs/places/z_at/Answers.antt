@@ -1,6 +1,5 @@
 -- `topology::places::z_at` meets its contract.
 -- Assumes nothing.
-use borrow.Author.Rules.{rules}
 use Rattle.topology.proofs.places.z_at.Goals as goal
 
 pub returns : goal.returns

@@ -1,15 +1,8 @@
 -- `topology::sorts::asks_places` meets its contract. The loop's invariant: no node before `i` asks for its place.
 -- Assumes nothing.
-use Prim.Native.Nat.{◌≤◌, ◌-◌}
-use mathlib.Core.Bool.{false}
-use mathlib.Core.Path.{◌≡◌, sym}
+use mathlib.Core.Path.{sym}
 use native.Mathlib.Omega.{arith}
-use borrow.Author.Rules.{rules}
-use Rattle.laws.specs.Find.{any}
 use Rattle.laws.proofs.FindLaws.{any-start, any_next, any-true, any-end}
-use Rattle.record.specs.declared.kind.Kind.TheVariants.{Nodo}
-use Rattle.record.specs.Says.{table_of}
-use Rattle.topology.specs.machinery.Nodes.{asks_place}
 use Rattle.topology.proofs.SortLaws.{asks-is}
 use Rattle.topology.proofs.sorts.asks_places.Goals as goal
 
@@ -23,18 +16,18 @@ bounds-loose-i c = omega (arith, c.loop-i-test.true, c.requires.0)
 
 -- src/sorts.rt:51:72
 pub bounds-few-i : goal.bounds-few-i
-bounds-few-i c =    omega (arith, c.loop-i-test.true, c.requires.1)
+bounds-few-i c = omega (arith, c.loop-i-test.true, c.requires.1)
 
 -- src/sorts.rt:52:13
 pub returns-then-letter-loose : goal.returns-then-letter-loose
-returns-then-letter-loose c =    sym (any-true _ _ c.loop-i-test.true (asks-is _ _ _ _ c.letter.ensures c.if-letter-loose.true))
+returns-then-letter-loose c = sym (any-true _ _ c.loop-i-test.true (asks-is _ _ _ _ c.letter.ensures c.if-letter-loose.true))
 
 -- src/sorts.rt:50:5
 pub loop-i-preserved : goal.loop-i-preserved
-loop-i-preserved c =    (
-      omega (arith, c.loop-i-test.true),
-      any_next _ c.loop-i.invariant.1 (asks-is _ _ _ _ c.letter.ensures c.if-letter-loose.false),
-    )
+loop-i-preserved c = (
+  omega (arith, c.loop-i-test.true),
+  any_next _ c.loop-i.invariant.1 (asks-is _ _ _ _ c.letter.ensures c.if-letter-loose.false),
+)
 
 -- src/sorts.rt:45:1
 pub returns : goal.returns

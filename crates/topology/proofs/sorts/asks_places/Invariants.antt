@@ -2,15 +2,11 @@
 -- Assumes nothing.
 use Prim.Native.Nat.{◌≤◌, ◌-◌}
 use mathlib.Core.Bool.{false}
-use mathlib.Core.Path.{◌≡◌, sym}
-use native.Mathlib.Omega.{arith}
-use borrow.Author.Rules.{rules}
+use mathlib.Core.Path.{◌≡◌}
 use Rattle.laws.specs.Find.{any}
-use Rattle.laws.proofs.FindLaws.{any-start, any_next, any-true, any-end}
 use Rattle.record.specs.declared.kind.Kind.TheVariants.{Nodo}
 use Rattle.record.specs.Says.{table_of}
 use Rattle.topology.specs.machinery.Nodes.{asks_place}
-use Rattle.topology.proofs.SortLaws.{asks-is}
 use Rattle.topology.proofs.sorts.asks_places.Given as goal
 
 abbrev pub invariant-loop-i : goal.invariant-loop-i

@@ -2,11 +2,7 @@
 -- Assumes nothing.
 use Prim.Native.Nat.{◌-◌}
 use mathlib.Core.Bool.{◌&&◌}
-use mathlib.Core.Path.{refl}
-use native.Mathlib.Omega.{arith}
-use borrow.Author.Rules.{rules}
 use Rattle.index.specs.Marks.{Marked, is_marked}
-use Rattle.index.proofs.MarkLaws.{marked_start, marked_more, marked-end}
 use Rattle.topology.proofs.sorts.mark_idle.Given as goal
 
 abbrev pub invariant-loop-i : goal.invariant-loop-i

@@ -2,15 +2,10 @@
 -- Assumes nothing.
 use Prim.Native.Nat.{◌-◌}
 use mathlib.Core.Bool.{not, ◌&&◌}
-use mathlib.Core.Path.{refl}
-use native.Mathlib.Omega.{arith}
-use borrow.Author.Rules.{rules}
 use Rattle.index.specs.Marks.{Marked, is_marked}
-use Rattle.index.proofs.MarkLaws.{marked_start, marked_more, marked-end}
 use Rattle.record.specs.declared.kind.Kind.TheVariants.{Nodo}
 use Rattle.record.specs.Says.{table_of, letter_in}
 use Rattle.topology.specs.Rules.{agrees}
-use Rattle.topology.proofs.SortLaws.{odd_is}
 use Rattle.topology.proofs.sorts.mark_odd.Given as goal
 
 abbrev pub invariant-loop-i : goal.invariant-loop-i

@@ -1,7 +1,6 @@
 -- `topology::spots::fill_heights` meets its contract. Z stands beside X and Y.
 -- Assumes nothing.
 use Rattle.topology.proofs.SpotLaws.{nodes-read}
-use borrow.Author.Rules.{rules}
 use Rattle.topology.proofs.spots.fill_heights.Goals as goal
 
 pub returns : goal.returns

@@ -1,7 +1,6 @@
 -- `topology::spots::fill_positions` meets its contract. Both columns fit the room.
 -- Assumes nothing.
 use Rattle.topology.proofs.SpotLaws.{positions-read}
-use borrow.Author.Rules.{rules}
 use Rattle.topology.proofs.spots.fill_positions.Goals as goal
 
 pub returns : goal.returns

@@ -1,12 +1,8 @@
 -- `topology::spots::fill_spots` meets its contract. The loop's invariant: the first `i` spots stand in the array.
 -- Assumes nothing.
-use Prim.Native.Nat.{◌-◌}
 use mathlib.Core.Path.{refl}
-use lib.ListN.{get_or}
-use Rattle.record.proofs.ColumnLaws.{Filling, filling-none, filling-more, filling-all}
-use Rattle.topology.specs.machinery.Places.{spot_of}
+use Rattle.record.proofs.ColumnLaws.{filling-none, filling-more, filling-all}
 use Rattle.record.proofs.ColumnLaws.{read-fills}
-use borrow.Author.Rules.{rules}
 use native.Mathlib.Omega.{arith}
 use Rattle.topology.proofs.spots.fill_spots.Goals as goal
 

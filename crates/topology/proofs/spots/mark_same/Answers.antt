@@ -1,7 +1,6 @@
 -- `topology::spots::mark_same` meets its contract. X and Y tell the records apart, and Z beside them.
 -- Assumes nothing.
 use Rattle.topology.proofs.SpotLaws.{same-marks}
-use borrow.Author.Rules.{rules}
 use Rattle.topology.proofs.spots.mark_same.Goals as goal
 
 pub mark_repeats-requires : goal.mark_repeats-requires

@@ -2,7 +2,6 @@
 -- Assumes nothing.
 use Rattle.topology.proofs.SpotLaws.{apart_marks, place-marks}
 use native.Mathlib.Omega.{arith}
-use borrow.Author.Rules.{rules}
 use Rattle.topology.proofs.spots.mark_same_place.Goals as goal
 
 pub clear-requires : goal.clear-requires

@@ -1,12 +1,9 @@
 -- `topology::spotted::fill_spotted` meets its contract. The loop's invariant: the first `j` numbers are those of their vertices.
 -- Assumes nothing.
 use Prim.Native.Nat.{◌-◌}
-use mathlib.Core.Path.{◌≡◌, refl}
-use native.Mathlib.Omega.{arith}
-use lib.ListN.{length, length-set}
+use mathlib.Core.Path.{◌≡◌}
+use lib.ListN.{length}
 use Rattle.topology.specs.machinery.Spotted.{Spotted}
-use Rattle.topology.proofs.SpottedLaws.{spotted-start, spotted-more, spotted-end}
-use borrow.Author.Rules.{rules}
 use Rattle.topology.proofs.spotted.fill_spotted.Given as goal
 
 abbrev pub invariant-loop-j : goal.invariant-loop-j

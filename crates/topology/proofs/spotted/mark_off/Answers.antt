@@ -2,8 +2,7 @@
 -- Assumes nothing.
 use Rattle.topology.proofs.SpottedLaws.{off-marks}
 use Rattle.topology.proofs.UsedLaws.{idle-marks}
-use borrow.Author.Rules.{rules}
 use Rattle.topology.proofs.spotted.mark_off.Goals as goal
 
 pub returns : goal.returns
-returns c =    off-marks c.fill_spotted.ensures (idle-marks c.clear.ensures c.mark_named.ensures c.mark_unheld.ensures)
+returns c = off-marks c.fill_spotted.ensures (idle-marks c.clear.ensures c.mark_named.ensures c.mark_unheld.ensures)

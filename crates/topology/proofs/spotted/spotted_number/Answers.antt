@@ -1,7 +1,6 @@
 -- `topology::spotted::spotted_number` meets its contract. With the mark it is the number of the place, and without it one that no node has.
 -- Assumes nothing.
 use Rattle.topology.proofs.SpottedLaws.{number-marked, number-unmarked}
-use borrow.Author.Rules.{rules}
 use Rattle.topology.proofs.spotted.spotted_number.Goals as goal
 
 pub returns-then-tip-mark : goal.returns-then-tip-mark

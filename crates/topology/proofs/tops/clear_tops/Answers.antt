@@ -1,12 +1,9 @@
 -- `topology::tops::clear_tops` meets its contract. The loop's invariant: the first `i` are 0.
 -- Assumes nothing.
-use Prim.Native.Nat.{◌-◌}
-use mathlib.Core.Path.{◌≡◌, refl}
+use mathlib.Core.Path.{refl}
 use native.Mathlib.Omega.{arith}
-use lib.ListN.{length, length-set}
-use Rattle.topology.specs.machinery.Lent.{Holds}
+use lib.ListN.{length-set}
 use Rattle.topology.proofs.LentLaws.{holds-start, holds_more, holds-end}
-use borrow.Author.Rules.{rules}
 use Rattle.topology.proofs.tops.clear_tops.Goals as goal
 
 pub loop-i-init : goal.loop-i-init

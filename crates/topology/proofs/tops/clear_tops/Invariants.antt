@@ -1,12 +1,9 @@
 -- `topology::tops::clear_tops` meets its contract. The loop's invariant: the first `i` are 0.
 -- Assumes nothing.
 use Prim.Native.Nat.{◌-◌}
-use mathlib.Core.Path.{◌≡◌, refl}
-use native.Mathlib.Omega.{arith}
-use lib.ListN.{length, length-set}
+use mathlib.Core.Path.{◌≡◌}
+use lib.ListN.{length}
 use Rattle.topology.specs.machinery.Lent.{Holds}
-use Rattle.topology.proofs.LentLaws.{holds-start, holds_more, holds-end}
-use borrow.Author.Rules.{rules}
 use Rattle.topology.proofs.tops.clear_tops.Given as goal
 
 abbrev pub invariant-loop-i : goal.invariant-loop-i

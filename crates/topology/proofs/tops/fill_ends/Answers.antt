@@ -1,14 +1,9 @@
 -- `topology::tops::fill_ends` meets its contract. The loop's invariant: the first `i` have their highest keys.
 -- Assumes nothing.
-use Prim.Native.Nat.{◌-◌}
-use mathlib.Core.Path.{◌≡◌, refl}
-use lib.ListN.{length, get_or, length-set}
+use mathlib.Core.Path.{refl}
+use lib.ListN.{length-set}
 use native.Mathlib.Omega.{arith}
-use Rattle.index.specs.Keys.{listed}
-use Rattle.topology.specs.Rules.{highest_in}
-use Rattle.topology.specs.machinery.Lent.{Holds}
 use Rattle.topology.proofs.LentLaws.{holds-start, holds_more, holds-end}
-use borrow.Author.Rules.{rules}
 use Rattle.topology.proofs.tops.fill_ends.Goals as goal
 
 pub loop-i-init : goal.loop-i-init

@@ -1,14 +1,11 @@
 -- `topology::tops::fill_ends` meets its contract. The loop's invariant: the first `i` have their highest keys.
 -- Assumes nothing.
 use Prim.Native.Nat.{◌-◌}
-use mathlib.Core.Path.{◌≡◌, refl}
-use lib.ListN.{length, get_or, length-set}
-use native.Mathlib.Omega.{arith}
+use mathlib.Core.Path.{◌≡◌}
+use lib.ListN.{length, get_or}
 use Rattle.index.specs.Keys.{listed}
 use Rattle.topology.specs.Rules.{highest_in}
 use Rattle.topology.specs.machinery.Lent.{Holds}
-use Rattle.topology.proofs.LentLaws.{holds-start, holds_more, holds-end}
-use borrow.Author.Rules.{rules}
 use Rattle.topology.proofs.tops.fill_ends.Given as goal
 
 abbrev pub invariant-loop-i : goal.invariant-loop-i

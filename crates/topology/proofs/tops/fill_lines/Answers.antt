@@ -1,13 +1,9 @@
 -- `topology::tops::fill_lines` meets its contract. The loop's invariant: the first `i` lines are in.
 -- Assumes nothing.
-use Prim.Native.Nat.{◌-◌}
-use mathlib.Core.Path.{◌≡◌, refl}
+use mathlib.Core.Path.{refl}
 use native.Mathlib.Omega.{arith}
-use lib.ListN.{length, length-set}
-use Rattle.topology.specs.machinery.Lent.{Holds}
-use Rattle.topology.specs.machinery.Tops.{line_of}
+use lib.ListN.{length-set}
 use Rattle.topology.proofs.LentLaws.{holds-start, holds_more, holds-end}
-use borrow.Author.Rules.{rules}
 use Rattle.topology.proofs.tops.fill_lines.Goals as goal
 
 pub loop-i-init : goal.loop-i-init

@@ -1,13 +1,10 @@
 -- `topology::tops::fill_lines` meets its contract. The loop's invariant: the first `i` lines are in.
 -- Assumes nothing.
 use Prim.Native.Nat.{◌-◌}
-use mathlib.Core.Path.{◌≡◌, refl}
-use native.Mathlib.Omega.{arith}
-use lib.ListN.{length, length-set}
+use mathlib.Core.Path.{◌≡◌}
+use lib.ListN.{length}
 use Rattle.topology.specs.machinery.Lent.{Holds}
 use Rattle.topology.specs.machinery.Tops.{line_of}
-use Rattle.topology.proofs.LentLaws.{holds-start, holds_more, holds-end}
-use borrow.Author.Rules.{rules}
 use Rattle.topology.proofs.tops.fill_lines.Given as goal
 
 abbrev pub invariant-loop-i : goal.invariant-loop-i

@@ -1,10 +1,7 @@
 -- `topology::tops::fill_tops` meets its contract. The loop's invariant: what stands at the vertex of each line is the highest of the line's keys before `j`.
 -- Assumes nothing.
-use Prim.Native.Nat.{◌-◌, ◌≤◌}
-use mathlib.Core.Path.{◌≡◌}
 use native.Mathlib.Omega.{arith}
-use lib.ListN.{length, length-set}
-use Rattle.topology.specs.machinery.Tops.{Tops}
+use lib.ListN.{length-set}
 use Rattle.topology.proofs.TopLaws.{tops_start, found_below_lem, tops-more, found_some, tops-end}
 use borrow.Author.Rules.{rules}
 use Rattle.topology.proofs.tops.fill_tops.Goals as goal

@@ -2,11 +2,8 @@
 -- Assumes nothing.
 use Prim.Native.Nat.{◌-◌, ◌≤◌}
 use mathlib.Core.Path.{◌≡◌}
-use native.Mathlib.Omega.{arith}
-use lib.ListN.{length, length-set}
+use lib.ListN.{length}
 use Rattle.topology.specs.machinery.Tops.{Tops}
-use Rattle.topology.proofs.TopLaws.{tops_start, found_below_lem, tops-more, found_some, tops-end}
-use borrow.Author.Rules.{rules}
 use Rattle.topology.proofs.tops.fill_tops.Given as goal
 
 abbrev pub invariant-loop-j : goal.invariant-loop-j

@@ -2,7 +2,6 @@
 -- Assumes nothing.
 use native.Mathlib.Omega.{arith}
 use Rattle.topology.proofs.TopLaws.{top-none, top_below, top-found}
-use borrow.Author.Rules.{rules}
 use Rattle.topology.proofs.tops.highest_of.Goals as goal
 
 pub offset_bounds-tops-r : goal.offset_bounds-tops-r

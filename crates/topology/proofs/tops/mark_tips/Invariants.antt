@@ -1,15 +1,9 @@
 -- `topology::tops::mark_tips` meets its contract. The loop's invariant: the marks of the vertices before `j` say which are a line's first or last.
 -- Assumes nothing.
 use Prim.Native.Nat.{◌-◌}
-use mathlib.Core.Path.{refl, ap, ◌∙◌}
-use native.Mathlib.Omega.{arith}
-use borrow.Author.Rules.{rules}
-use Rattle.laws.specs.Count.{bit}
 use Rattle.index.specs.Keys.{listed}
 use Rattle.index.specs.Marks.{Marked}
-use Rattle.index.proofs.MarkLaws.{marked_start, marked_more, marked-end}
 use Rattle.topology.specs.Rules.{is_tip}
-use Rattle.topology.proofs.SortLaws.{tip-is}
 use Rattle.topology.proofs.tops.mark_tips.Given as goal
 
 abbrev pub invariant-loop-j : goal.invariant-loop-j

@@ -3,11 +3,10 @@
 use native.Mathlib.Omega.{arith}
 use Rattle.record.proofs.ColumnLaws.{read-fills}
 use Rattle.topology.proofs.TopLaws.{ends-filled}
-use borrow.Author.Rules.{rules}
 use Rattle.topology.proofs.tops.prepare_ends.Goals as goal
 
 pub fill_ends-requires : goal.fill_ends-requires
-fill_ends-requires c =    let f = read-fills c.requires.6 c.fill_names-t.ensures in
+fill_ends-requires c = let f = read-fills c.requires.6 c.fill_names-t.ensures in
     (c.prepare_tops-way.ensures, omega (arith, f.count, f.long), omega (arith, f.count, c.requires.7))
 
 pub returns : goal.returns

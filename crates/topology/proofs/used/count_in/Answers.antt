@@ -1,7 +1,6 @@
 -- `topology::used::count_in` meets its contract. One more is put at the record that was found.
 -- Assumes nothing.
 use Rattle.topology.proofs.UsedLaws.{below_at, count_at_lem}
-use borrow.Author.Rules.{rules}
 use Rattle.topology.proofs.used.count_in.Goals as goal
 
 -- src/used.rt:92:34

@@ -1,7 +1,6 @@
 -- `topology::used::holder` meets its contract. Where hints find every id and no two are equal, an id's look-up finds its own record.
 -- Assumes nothing.
 use Rattle.topology.proofs.UsedLaws.{look_self, sought-self}
-use borrow.Author.Rules.{rules}
 use Rattle.topology.proofs.used.holder.Goals as goal
 
 pub returns-then-way : goal.returns-then-way

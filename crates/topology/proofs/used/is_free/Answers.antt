@@ -1,7 +1,6 @@
 -- `topology::used::is_free` meets its contract. The record that was found is read.
 -- Assumes nothing.
 use Rattle.topology.proofs.UsedLaws.{below_at, free-at}
-use borrow.Author.Rules.{rules}
 use Rattle.topology.proofs.used.is_free.Goals as goal
 
 pub bounds-used-r : goal.bounds-used-r

@@ -1,12 +1,8 @@
 -- `topology::used::mark_named` meets its contract. The loop's invariant: the records that the first `i` names find are in use.
 -- Assumes nothing.
-use Prim.Native.Nat.{◌≤◌, ◌-◌}
 use mathlib.Core.Path.{refl}
 use native.Mathlib.Omega.{arith}
-use Rattle.laws.specs.Find.{names}
-use Rattle.index.specs.Keys.{listed}
 use Rattle.index.proofs.LookLaws.{sought-below}
-use Rattle.topology.specs.machinery.Used.{Used}
 use Rattle.topology.proofs.UsedLaws.{used_start, used-more, used-end}
 use borrow.Author.Rules.{rules}
 use Rattle.topology.proofs.used.mark_named.Goals as goal
@@ -27,7 +23,7 @@ pub put-requires : goal.put-requires
 put-requires c = sought-below _ _ _ _ c.look-found.ensures.sought (omega (arith, c.requires.1, c.loop-i.invariant.1.long))
 
 pub loop-i-preserved : goal.loop-i-preserved
-loop-i-preserved c =    (search rules, used-more _ _ c.loop-i.invariant.1 c.requires.1 refl c.look-found.ensures.sought c.look-found.ensures.same c.put.ensures)
+loop-i-preserved c = (search rules, used-more _ _ c.loop-i.invariant.1 c.requires.1 refl c.look-found.ensures.sought c.look-found.ensures.same c.put.ensures)
 
 pub shape_of-used : goal.shape_of-used
 shape_of-used c = c.loop-i.invariant.1.long

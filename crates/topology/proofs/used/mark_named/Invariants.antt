@@ -1,14 +1,9 @@
 -- `topology::used::mark_named` meets its contract. The loop's invariant: the records that the first `i` names find are in use.
 -- Assumes nothing.
 use Prim.Native.Nat.{◌≤◌, ◌-◌}
-use mathlib.Core.Path.{refl}
-use native.Mathlib.Omega.{arith}
 use Rattle.laws.specs.Find.{names}
 use Rattle.index.specs.Keys.{listed}
-use Rattle.index.proofs.LookLaws.{sought-below}
 use Rattle.topology.specs.machinery.Used.{Used}
-use Rattle.topology.proofs.UsedLaws.{used_start, used-more, used-end}
-use borrow.Author.Rules.{rules}
 use Rattle.topology.proofs.used.mark_named.Given as goal
 
 abbrev pub invariant-loop-i : goal.invariant-loop-i

@@ -1,12 +1,9 @@
 -- `topology::used::mark_unheld` meets its contract. The loop's invariant: the first `i` marks say whether the record that their id finds is in use.
 -- Assumes nothing.
-use Prim.Native.Nat.{◌-◌}
 use mathlib.Core.Path.{ap, ◌∙◌}
 use Rattle.laws.specs.Count.{bit}
-use Rattle.topology.specs.machinery.Used.{Unheld}
 use Rattle.index.proofs.LookLaws.{sought-below}
 use Rattle.topology.proofs.UsedLaws.{unheld-start, unheld-more, unheld-end}
-use borrow.Author.Rules.{rules}
 use native.Mathlib.Omega.{arith}
 use Rattle.topology.proofs.used.mark_unheld.Goals as goal
 

@@ -3,11 +3,10 @@
 use native.Mathlib.Omega.{arith}
 use Rattle.record.proofs.ColumnLaws.{read-fills}
 use Rattle.topology.proofs.UsedLaws.{used-filled}
-use borrow.Author.Rules.{rules}
 use Rattle.topology.proofs.used.mark_used.Goals as goal
 
 pub mark_named-requires : goal.mark_named-requires
-mark_named-requires c =    let p = c.requires in
+mark_named-requires c = let p = c.requires in
     let f = read-fills p.2 c.fill_names-m.ensures in
     (p.0, p.1, omega (arith, f.count, f.long))
 

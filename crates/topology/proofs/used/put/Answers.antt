@@ -1,7 +1,6 @@
 -- `topology::used::put` meets its contract. 1 is put at the record that was found.
 -- Assumes nothing.
 use Rattle.topology.proofs.UsedLaws.{below_at, put-at}
-use borrow.Author.Rules.{rules}
 use Rattle.topology.proofs.used.put.Goals as goal
 
 pub bounds-used-r : goal.bounds-used-r

@@ -21,18 +21,18 @@ within l n d d' h =
 
 pub returns-then-f-lt1 : goal.returns-then-f-lt1
 unfolding value_at
-returns-then-f-lt1 c =    let e : c.args.f ≡ 0 = omega arith in
+returns-then-f-lt1 c = let e : c.args.f ≡ 0 = omega arith in
     rw e c.missing_value.ensures
 
 pub returns-then-f-gt-MOST_FIELDS : goal.returns-then-f-gt-MOST_FIELDS
 unfolding value_at
-returns-then-f-gt-MOST_FIELDS c =    let v = c.args.self in
+returns-then-f-gt-MOST_FIELDS c = let v = c.args.self in
     let h : length v.at ≡ 14 = search (rules, long) in
     c.missing_value-then-f-gt-MOST_FIELDS.ensures ∙ sym (get_or-eq_default (no_value ∷ v.at) no_value {n = c.args.f} (omega arith))
 
 pub returns : goal.returns
 unfolding value_at
-returns c =    let a = c.args in
+returns c = let a = c.args in
     let h : length c.args.self.at ≡ 14 = search (rules, long) in
     let e : a.f ≡ suc (a.f - 1) = omega arith in
     within c.args.self.at (a.f - 1) _ no_value (omega arith) ∙ ap (λ (f : ℕ). get_or (no_value ∷ c.args.self.at) f no_value) (sym e)

@@ -1,13 +1,10 @@
 -- `field::class::Class::every` meets its contract: the loop passes every byte, and keeps whether those passed are of the class.
 -- Assumes nothing.
 use Prim.Native.Nat.{◌≤◌, ◌-◌}
-use mathlib.Core.Path.{◌≡◌, refl, sym, ◌∙◌}
+use mathlib.Core.Path.{◌≡◌}
 use mathlib.Core.Bool.{◌&&◌}
-use native.Mathlib.Omega.{arith}
 use lib.ListN.{length, drop}
 use Rattle.field.specs.Bytes.{all_of}
-use Rattle.field.proofs.TextLoops.{class-more, class-end}
-use borrow.Author.Rules.{rules}
 use Rattle.field.proofs.class.Class.every.Given as goal
 
 abbrev pub invariant-loop-j : goal.invariant-loop-j

@@ -1,6 +1,5 @@
 -- `field::class::Class::has` meets its contract.
 -- Assumes nothing.
-use borrow.Author.Rules.{rules}
 use Rattle.field.proofs.class.Class.has.Goals as goal
 
 pub returns-in-Blank : goal.returns-in-Blank

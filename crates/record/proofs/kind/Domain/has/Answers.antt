@@ -1,7 +1,6 @@
 -- `record::kind::Domain::has` meets its contract.
 -- Assumes nothing.
 use Rattle.record.specs.Rules.{in_domain}
-use borrow.Author.Rules.{rules}
 use Rattle.record.proofs.kind.Domain.has.Goals as goal
 
 pub returns-then-is_n : goal.returns-then-is_n

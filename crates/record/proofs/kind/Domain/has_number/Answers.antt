@@ -1,7 +1,6 @@
 -- `record::kind::Domain::has_number` meets its contract.
 -- Assumes nothing.
 use Rattle.record.specs.Rules.{number_within}
-use borrow.Author.Rules.{rules}
 use Rattle.record.proofs.kind.Domain.has_number.Goals as goal
 
 pub returns-in-Any : goal.returns-in-Any

@@ -1,7 +1,6 @@
 -- `record::kind::Domain::has_word` meets its contract.
 -- Assumes nothing.
 use Rattle.record.specs.Rules.{word_within}
-use borrow.Author.Rules.{rules}
 use Rattle.record.proofs.kind.Domain.has_word.Goals as goal
 
 pub returns-in-Any : goal.returns-in-Any

@@ -6,7 +6,6 @@ use Rattle.record.specs.Table.{Col, domain_at}
 use Rattle.record.specs.machinery.Packed.{domain_digit, domain_of}
 use Rattle.record.proofs.TableLaws.{everywhere}
 use Rattle.record.proofs.PackedLaws.{read_at, domain-digit}
-use borrow.Author.Rules.{rules}
 use Rattle.record.proofs.kind.Kind.domain.Goals as goal
 
 pub returns : goal.returns

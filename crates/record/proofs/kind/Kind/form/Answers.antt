@@ -6,7 +6,6 @@ use Rattle.record.specs.Table.{Col, form_at}
 use Rattle.record.specs.machinery.Packed.{form_digit, form_of}
 use Rattle.record.proofs.TableLaws.{everywhere}
 use Rattle.record.proofs.PackedLaws.{read_at, form-digit}
-use borrow.Author.Rules.{rules}
 use Rattle.record.proofs.kind.Kind.form.Goals as goal
 
 pub returns : goal.returns

@@ -7,7 +7,6 @@ use Rattle.laws.specs.Row.{row, each}
 use Rattle.record.specs.Table.{offset_in, offset_at}
 use Rattle.record.proofs.TableLaws.{everywhere, sane, offset-end}
 use Rattle.record.proofs.PackedLaws.{read}
-use borrow.Author.Rules.{rules}
 use Rattle.record.proofs.kind.Kind.offset.Goals as goal
 
 pub overflow_sub-result : goal.overflow_sub-result

@@ -7,7 +7,6 @@ use Rattle.laws.specs.Row.{pick, row, each}
 use Rattle.record.specs.Table.{Col, own_at}
 use Rattle.record.proofs.TableLaws.{everywhere}
 use Rattle.record.proofs.PackedLaws.{read_at, one-picked}
-use borrow.Author.Rules.{rules}
 use Rattle.record.proofs.kind.Kind.own.Goals as goal
 
 pub returns : goal.returns

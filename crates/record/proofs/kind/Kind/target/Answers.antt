@@ -6,7 +6,6 @@ use Rattle.record.specs.Table.{Col, target_of}
 use Rattle.record.specs.machinery.Packed.{target_file, target_field, target_by}
 use Rattle.record.proofs.TableLaws.{everywhere}
 use Rattle.record.proofs.PackedLaws.{read_at, target-digits}
-use borrow.Author.Rules.{rules}
 use Rattle.record.proofs.kind.Kind.target.Goals as goal
 
 pub returns : goal.returns

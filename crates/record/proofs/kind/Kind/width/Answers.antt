@@ -7,7 +7,6 @@ use Rattle.laws.specs.Row.{row, each}
 use Rattle.record.specs.Table.{Col, width_at}
 use Rattle.record.proofs.TableLaws.{everywhere}
 use Rattle.record.proofs.PackedLaws.{read_at}
-use borrow.Author.Rules.{rules}
 use Rattle.record.proofs.kind.Kind.width.Goals as goal
 
 pub returns : goal.returns

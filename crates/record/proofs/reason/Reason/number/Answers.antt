@@ -1,6 +1,5 @@
 -- `Reason::number` meets its contract: each arm is the clause of `number_of` for its variant.
 -- Assumes nothing.
-use borrow.Author.Rules.{rules}
 use Rattle.record.proofs.reason.Reason.number.Goals as goal
 
 pub returns-in-LongFile10 : goal.returns-in-LongFile10

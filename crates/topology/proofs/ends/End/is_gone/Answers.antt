@@ -1,6 +1,5 @@
 -- `topology::ends::End::is_gone` meets its contract. By the end.
 -- Assumes nothing.
-use borrow.Author.Rules.{rules}
 use Rattle.topology.proofs.ends.End.is_gone.Goals as goal
 
 pub returns-in-Start : goal.returns-in-Start

@@ -1,7 +1,6 @@
 -- `topology::ends::End::key` meets its contract. The start's is made of the line, the last one's is the highest itself.
 -- Assumes nothing.
 use native.Mathlib.Omega.{arith}
-use borrow.Author.Rules.{rules}
 use Rattle.topology.proofs.ends.End.key.Goals as goal
 
 pub overflow_mul-result : goal.overflow_mul-result
