@@ -1,6 +1,5 @@
-// A file in hand: its lent bytes together with its kind, and thin functions over it. The borrow checker covers no function over a
-// struct that holds a reference, so these are proved by hand; each takes the struct apart and leaves the work to `record`'s functions
-// on the slice and the kind. Callers use those at the end, whose parameters are plain.
+// A file in hand: its lent bytes together with its kind, and thin functions over it. Each takes the struct apart and leaves the work to
+// `record`'s functions on the slice and the kind. Callers use those at the end, whose parameters are plain.
 #![tactic(auto)]
 
 ghost use Rattle.std.specs.Prelude.{◌≡◌};
