@@ -38,13 +38,13 @@ fn without_number(text: &[u8], n: usize) -> usize {
 }
 
 // Says on standard error what failed: the file's name, a colon and the system's words. Where that can't be said either, nothing is.
-pub fn fail<E: Write>(err: &mut E, name: &str, error: &io::Error) {
+pub fn fail<E: Write>(err: &mut E, name: &[u8], error: &io::Error) {
     let mut text = [0u8; TEXT];
     let mut left = &mut text[..];
     let _ = write!(left, "{error}");
     let n = TEXT.saturating_sub(left.len());
     let words = part(&text, 0, without_number(&text, n));
-    let _ = err.write_all(name.as_bytes());
+    let _ = err.write_all(name);
     let _ = err.write_all(b": ");
     let _ = err.write_all(words);
     let _ = err.write_all(b"\n");
@@ -60,7 +60,7 @@ fn load_from<F: Read, E: Write>(file: &mut F, err: &mut E, name: &str, buf: &mut
             Ok(0) => return done,
             Ok(n) => done += n,
             Err(e) => {
-                fail(err, name, &e);
+                fail(err, name.as_bytes(), &e);
                 return FAILED;
             }
         }
@@ -77,7 +77,7 @@ fn load<R: Files, E: Write>(rt: &R, err: &mut E, name: &str, buf: &mut [u8]) -> 
             if e.kind() == ErrorKind::NotFound {
                 return 0;
             }
-            fail(err, name, &e);
+            fail(err, name.as_bytes(), &e);
             FAILED
         }
     }

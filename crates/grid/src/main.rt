@@ -5,16 +5,15 @@
 use folder::{ALL, any_failed, files_in, load_files};
 use grids::rows::program_rows;
 use record::cut::part;
-use std::io;
 use std::io::Write;
 
-fn main(rt: HostRuntime) -> io::Result<()> {
+fn main(rt: HostRuntime) {
     let mut room = [0u8; ALL];
     let lens = load_files(&rt, &mut rt.stderr(), &mut room);
     if any_failed(lens) {
-        return Ok(());
+        return;
     }
     let rows = program_rows(files_in(&room, lens));
     let bytes = rows.bytes;
-    rt.stdout().write_all(part(&bytes, 0, rows.len))
+    let _ = rt.stdout().write_all(part(&bytes, 0, rows.len));
 }

@@ -217,28 +217,31 @@ fn say_named<R: Files, W: Write, E: Write>(
     err: &mut E,
     name: &str,
 ) -> io::Result<()> {
-    say(out, name.as_bytes())?;
-    say(out, b"\n")?;
     let number = field::class::byte(name.as_bytes(), 0) % 16;
     match File::open(rt, name) {
         Ok(mut file) => say_open(out, &mut file, number as usize),
         Err(e) => {
-            folder::fail(err, name, &e);
+            folder::fail(err, name.as_bytes(), &e);
             Ok(())
         }
     }
 }
 
-// An argument's bytes as a name, which is text.
+// Prints an argument, and the records of the file that it names. A file's name is text: what is none names no file.
 fn say_argument<R: Files, W: Write, E: Write>(
     rt: &R,
     out: &mut W,
     err: &mut E,
     name: &[u8],
 ) -> io::Result<()> {
+    say(out, name)?;
+    say(out, b"\n")?;
     match str::from_utf8(name) {
-        Ok(name) => say_named(rt, out, err, name),
-        Err(_) => Err(io::Error::from(ErrorKind::InvalidData)),
+        Ok(text) => say_named(rt, out, err, text),
+        Err(_) => {
+            folder::fail(err, name, &io::Error::from(ErrorKind::InvalidFilename));
+            Ok(())
+        }
     }
 }
 

@@ -5,16 +5,15 @@
 use folder::{ALL, any_failed, files_in, load_files};
 use judge::line::program_line;
 use record::cut::part;
-use std::io;
 use std::io::Write;
 
-fn main(rt: HostRuntime) -> io::Result<()> {
+fn main(rt: HostRuntime) {
     let mut room = [0u8; ALL];
     let lens = load_files(&rt, &mut rt.stderr(), &mut room);
     if any_failed(lens) {
-        return Ok(());
+        return;
     }
     let line = program_line(files_in(&room, lens));
     let bytes = line.bytes;
-    rt.stdout().write_all(part(&bytes, 0, line.len))
+    let _ = rt.stdout().write_all(part(&bytes, 0, line.len));
 }
