@@ -5,12 +5,13 @@
 ghost use Rattle.std.specs.Prelude.{◌≡◌, length, ◌+◌, ◌*◌, ◌^◌, ◌<◌, ◌≤◌, IfOk};
 ghost use Rattle.record.specs.Table.{file_count};
 
+use folder::read_full;
 use judge::judge::judge;
 use judge::line::line_of;
 use record::cut::part;
 use record::kind::FILES;
 use std::io;
-use std::io::{Read, Write};
+use std::io::Write;
 
 // A number that was read, and the place after the byte that ends it.
 #[derive(Clone, Copy)]
@@ -99,21 +100,6 @@ fn judge_all<W: Write>(out: &mut W, s: &[u8]) -> io::Result<()>
         at = judge_at(out, s, at)?;
     }
     Ok(())
-}
-
-// Reads to the end, or until the room is full, and answers how many bytes it read.
-fn read_full<R: Read>(from: &mut R, room: &mut [u8]) -> io::Result<usize>
-    ensures { IfOk result (λ n. n ≤ length room.new) }
-{
-    let mut done = 0;
-    while done < room.len() {
-        let n = from.read(&mut room[done..])?;
-        if n == 0 {
-            return Ok(done);
-        }
-        done += n;
-    }
-    Ok(done)
 }
 
 // Room for what is read.

@@ -1,7 +1,8 @@
 -- The files that a program has read, one after another in one room. What a file has is the disk's: of it nothing is said here but how long
 -- it can be.
 -- Assumes nothing.
-use Rattle.std.specs.Prelude.{ℕ, ◌+◌, ◌*◌, ◌≤◌, Bool, List, eqb, get_or, take, drop}
+use Rattle.std.specs.Prelude.{ℕ, ◌+◌, ◌*◌, ◌≤◌, Bool, List, [], ◌∷◌, ◌++◌, Option, eqb, get_or, take, drop}
+use Rattle.std.specs.Io.KnownBytes.{Appends}
 use Rattle.laws.specs.Find.{any}
 use Rattle.laws.specs.Row.{row}
 use Rattle.record.specs.Table.{file_count}
@@ -14,6 +15,10 @@ file_room = big + 1
 -- instead of a file's length: it can't be read
 abbrev pub failed : ℕ
 failed = file_room + 1
+
+-- a writer's bytes grew by a line: the name, a colon and a blank, and words
+abbrev pub TellsOf : List ℕ → Option (List ℕ) → Option (List ℕ) → Type 0
+TellsOf name old new = (words : List ℕ) × Appends old new (name ++ (58 ∷ 32 ∷ []) ++ words ++ (10 ∷ []))
 
 -- each is the length of a file that fits its part, or that it can't be read
 pub record Lengths (lens : List ℕ) : Type 0 where

@@ -2,8 +2,9 @@
 // file is there and can't be read whole, the reason goes to standard error.
 #![tactic(auto)]
 
-ghost use Rattle.std.specs.Prelude.{◌≡◌, map, ◌⊎◌, ◌≤◌, length};
-ghost use Rattle.folder.specs.Folder.{failed, Lengths, any_failed, files_read};
+ghost use Rattle.std.specs.Prelude.{◌≡◌, map, ◌⊎◌, ◌<◌, ◌≤◌, length, take, OnOk, IfOk};
+ghost use Rattle.std.specs.Io.KnownBytes.{Consumes, IsAtEnd};
+ghost use Rattle.folder.specs.Folder.{failed, Lengths, any_failed, files_read, TellsOf};
 
 use judge::line::BIG;
 use record::cut::part;
@@ -37,35 +38,49 @@ fn without_number(text: &[u8], n: usize) -> usize {
     n
 }
 
-// Says on standard error what failed: the file's name, a colon and the system's words. Where that can't be said either, nothing is.
-pub fn fail<E: Write>(err: &mut E, name: &[u8], error: &io::Error) {
+// Says what failed: a file's name, a colon and the system's words, in one line.
+pub fn fail<E: Write>(err: &mut E, name: &[u8], error: &io::Error) -> io::Result<()>
+    ensures { OnOk result (TellsOf name.now (E.contents err.old) (E.contents err.new)) }
+{
     let mut text = [0u8; TEXT];
     let mut left = &mut text[..];
     let _ = write!(left, "{error}");
     let n = TEXT.saturating_sub(left.len());
     let words = part(&text, 0, without_number(&text, n));
-    let _ = err.write_all(name);
-    let _ = err.write_all(b": ");
-    let _ = err.write_all(words);
-    let _ = err.write_all(b"\n");
+    err.write_all(name)?;
+    err.write_all(b": ")?;
+    err.write_all(words)?;
+    err.write_all(b"\n")
 }
 
-// Reads to the end of the file, or until the room is full, and answers how many bytes it read.
+// Reads to the end, or until the room is full, and answers how many bytes it read.
+pub fn read_full<R: Read>(from: &mut R, room: &mut [u8]) -> io::Result<usize>
+    ensures within { IfOk result (λ n. n ≤ length room.new) }
+    ensures bytes { IfOk result (λ n. Consumes (R.remaining from.old) (R.remaining from.new) (take n room.new)) }
+    ensures end { IfOk result (λ n. n < length room.new → IsAtEnd (R.remaining from.new)) }
+{
+    let mut done = 0;
+    while done < room.len() {
+        let n = from.read(&mut room[done..])?;
+        if n == 0 {
+            return Ok(done);
+        }
+        done += n;
+    }
+    Ok(done)
+}
+
+// Reads an open file into the room. What can't be read is told, where that can be written.
 fn load_from<F: Read, E: Write>(file: &mut F, err: &mut E, name: &str, buf: &mut [u8]) -> usize
     ensures { (result ≤ length buf.old) ⊎ (result ≡ failed) }
 {
-    let mut done = 0;
-    while done < buf.len() {
-        match file.read(&mut buf[done..]) {
-            Ok(0) => return done,
-            Ok(n) => done += n,
-            Err(e) => {
-                fail(err, name.as_bytes(), &e);
-                return FAILED;
-            }
+    match read_full(file, buf) {
+        Ok(n) => n,
+        Err(e) => {
+            let _ = fail(err, name.as_bytes(), &e);
+            FAILED
         }
     }
-    done
 }
 
 fn load<R: Files, E: Write>(rt: &R, err: &mut E, name: &str, buf: &mut [u8]) -> usize
@@ -77,7 +92,7 @@ fn load<R: Files, E: Write>(rt: &R, err: &mut E, name: &str, buf: &mut [u8]) -> 
             if e.kind() == ErrorKind::NotFound {
                 return 0;
             }
-            fail(err, name.as_bytes(), &e);
+            let _ = fail(err, name.as_bytes(), &e);
             FAILED
         }
     }

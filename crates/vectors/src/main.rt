@@ -2,7 +2,7 @@
 // whether the bytes are the same. A name's first byte is the file's number.
 #![tactic(auto)]
 
-ghost use Rattle.std.specs.Prelude.{◌<◌, ◌≤◌, length, IfOk};
+ghost use Rattle.std.specs.Prelude.{◌<◌};
 
 use codec::read::read;
 use codec::values::{Answer, Reading, Value, Values};
@@ -188,25 +188,10 @@ fn say_file<W: Write>(out: &mut W, file: usize, bytes: &[u8]) -> io::Result<()> 
     Ok(())
 }
 
-// Reads to the end of the file, or until the room is full, and answers how many bytes it read.
-fn read_full<F: Read>(file: &mut F, room: &mut [u8]) -> io::Result<usize>
-    ensures { IfOk result (λ n. n ≤ length room.new) }
-{
-    let mut done = 0;
-    while done < room.len() {
-        let n = file.read(&mut room[done..])?;
-        if n == 0 {
-            return Ok(done);
-        }
-        done += n;
-    }
-    Ok(done)
-}
-
 // Prints the records of an open file of the number.
 fn say_open<F: Read, W: Write>(out: &mut W, from: &mut F, file: usize) -> io::Result<()> {
     let mut buffer = [0u8; 8192];
-    let got = read_full(from, &mut buffer)?;
+    let got = folder::read_full(from, &mut buffer)?;
     say_file(out, file, &buffer[..got])
 }
 
@@ -220,10 +205,7 @@ fn say_named<R: Files, W: Write, E: Write>(
     let number = field::class::byte(name.as_bytes(), 0) % 16;
     match File::open(rt, name) {
         Ok(mut file) => say_open(out, &mut file, number as usize),
-        Err(e) => {
-            folder::fail(err, name.as_bytes(), &e);
-            Ok(())
-        }
+        Err(e) => folder::fail(err, name.as_bytes(), &e),
     }
 }
 
@@ -238,10 +220,7 @@ fn say_argument<R: Files, W: Write, E: Write>(
     say(out, b"\n")?;
     match str::from_utf8(name) {
         Ok(text) => say_named(rt, out, err, text),
-        Err(_) => {
-            folder::fail(err, name, &io::Error::from(ErrorKind::InvalidFilename));
-            Ok(())
-        }
+        Err(_) => folder::fail(err, name, &io::Error::from(ErrorKind::InvalidFilename)),
     }
 }
 
