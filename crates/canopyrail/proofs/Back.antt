@@ -23,17 +23,18 @@ use Rattle.field.proofs.TextLaws.{first-bytes-le}
 use Rattle.record.specs.declared.kind.Kind.{Kind}
 use Rattle.record.specs.declared.kind.Form.{Form}
 use Rattle.record.specs.declared.kind.Form.TheVariants.{Words, Code, Sign, Number, Size}
-use Rattle.record.specs.declared.kind.Which.TheVariants.{File}
+use Rattle.std.specs.Prelude.{Some}
 use Rattle.record.specs.Table.{form_at, fields_of, length_of, which_of, most_fields, widest}
 use Rattle.record.specs.Cut.{record_of, text_of}
 use Rattle.record.specs.Says.{said_as, said_in}
 use Rattle.record.proofs.TableLaws.{sane}
 use Rattle.codec.specs.declared.values.Value.{Value}
 use Rattle.codec.specs.declared.values.Values.{Values}
-use Rattle.codec.specs.declared.values.Answer.{Answer}
-use Rattle.codec.specs.declared.values.Answer.TheVariants.{Done, Refused}
+use Rattle.codec.specs.Calls.{Answer}
+use Rattle.std.specs.Prelude.{Ok, Err}
+use Rattle.codec.specs.Calls.{refused}
 use Rattle.codec.specs.Values.{no_value, text_by, said_by, value_at, values_say, text_value, value_of, values_in}
-use Rattle.codec.specs.declared.values.Reading.{Reading}
+use Rattle.codec.specs.Calls.{Reading, answer_read, values_read}
 use Rattle.codec.specs.Calls.{read_of, Writes}
 use Rattle.codec.proofs.CallLaws as calls
 use Rattle.codec.proofs.Theorems as one
@@ -144,25 +145,25 @@ module _ (s : List ℕ) (k : Kind) {n : List ℕ} {c : List ℤ} {l t n' : List 
       ∙ ap (said_by (form_at k (suc i))) (sym (rw add-one at x))
 
 -- AN ANSWER 0
-read-zero : (a : Answer) (b : Bool) → 0 ≡ read_answer a b → a ≡ Done
-read-zero Done b e = refl
-read-zero (Refused reason field) b e = absurd (refusal-told reason field (sym e))
+read-zero : (a : Answer) (b : Bool) → 0 ≡ read_answer a b → a ≡ Ok tt
+read-zero (Ok u) b e = refl
+read-zero (Err r) b e = absurd (refusal-told r.reason r.field (sym e))
 
-written-zero : (a : Answer) → 0 ≡ answer_word a → a ≡ Done
-written-zero Done e = refl
-written-zero (Refused reason field) e = absurd (refusal-told reason field (sym e))
+written-zero : (a : Answer) → 0 ≡ answer_word a → a ≡ Ok tt
+written-zero (Ok u) e = refl
+written-zero (Err r) e = absurd (refusal-told r.reason r.field (sym e))
 
-module _ (file : ℕ) (k : Kind) (e : which_of file ≡ File k) where
+module _ (file : ℕ) (k : Kind) (e : which_of file ≡ Some k) where
   -- what is read is held by the arrays
   module _ (s : List ℕ) (i : ℕ) {n : List ℕ} {c : List ℤ} {l t n' : List ℕ} {c' : List ℤ} {l' t' : List ℕ} (w : Reads file s i n c l t 0 n' c' l' t') where
-    read_done : (read_of file s i).answer ≡ Done
+    read_done : answer_read (read_of file s i) ≡ Ok tt
     read_done = read-zero _ _ w.says
 
-    arrays-say : (f : ℕ) → 1 ≤ f → f ≤ fields_of k → values_say k (lent_values n' c' l' t') f ≡ values_say k (read_of file s i).values f
+    arrays-say : (f : ℕ) → 1 ≤ f → f ≤ fields_of k → values_say k (lent_values n' c' l' t') f ≡ values_say k (values_read (read_of file s i)) f
     arrays-say f a b =
         let there = calls.done-there file k e s i read_done in
         let fine = calls.fine-read file k e s i there.0 there.1 read_done in
-        let q : (read_of file s i).values ≡ values_in (record_of s k (i - 1)) k = ap (λ (x : Reading). x.values) (calls.read-fine file k e s i there.0 there.1 fine) in
+        let q : (values_read (read_of file s i)) ≡ values_in (record_of s k (i - 1)) k = ap values_read (calls.read-fine file k e s i there.0 there.1 fine) in
         let held = subst (λ (v : Values). Holds v n c l t n' c' l' t') q (w.holds refl) in
         rw q (lent-say (record_of s k (i - 1)) k held f a b)
 
@@ -171,7 +172,7 @@ module _ (file : ℕ) (k : Kind) (e : which_of file ≡ File k) where
         (room : List ℕ) (r : ℕ) (after : List ℕ) → length_of k ≤ length room → WritesLent file (lent_values n' c' l' t') room r after
         → (r ≡ 0) × (after ≡ record_of s k (i - 1) ++ drop (length_of k) room)
     written_back room r after m x =
-        let same = one.said-alike file k e (lent_values n' c' l' t') (read_of file s i).values arrays-say room in
+        let same = one.said-alike file k e (lent_values n' c' l' t') (values_read (read_of file s i)) arrays-say room in
         let p = one.writes-what-was-read file k e s i read_done room after x.answer m
         (record { says = x.writes.says ∙ same.0; leaves = x.writes.leaves ∙ same.1 x.answer }) in
         (x.says ∙ ap answer_word p.0, p.1)

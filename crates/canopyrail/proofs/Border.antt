@@ -11,8 +11,8 @@ use native.Mathlib.Omega.{arith}
 use lib.IntN.{ℤ}
 use lib.ListN.{length}
 use Rattle.record.specs.declared.kind.Kind.{Kind}
-use Rattle.record.specs.declared.kind.Which.{Which}
-use Rattle.record.specs.declared.kind.Which.TheVariants.{NoFile, File}
+use Rattle.record.specs.Table.{Which}
+use Rattle.std.specs.Prelude.{None, Some}
 use Rattle.record.specs.declared.reason.Reason.{Reason}
 use Rattle.record.specs.declared.reason.Reason.TheVariants.{ShortRoom61}
 use Rattle.record.specs.Table.{length_of, which_of, most_fields}
@@ -20,9 +20,10 @@ use Rattle.record.specs.Cut.{count_of}
 use Rattle.record.specs.Breaks.{number_of}
 use Rattle.record.proofs.TableLaws.{sane}
 use Rattle.codec.specs.declared.values.Values.{Values}
-use Rattle.codec.specs.declared.values.Answer.{Answer}
-use Rattle.codec.specs.declared.values.Answer.TheVariants.{Done, Refused}
-use Rattle.codec.specs.Calls.{read_of, answer_as, Writes}
+use Rattle.codec.specs.Calls.{Answer}
+use Rattle.std.specs.Prelude.{Ok, Err}
+use Rattle.codec.specs.Calls.{refused}
+use Rattle.codec.specs.Calls.{answer_read, read_of, answer_as, Writes}
 use Rattle.codec.proofs.Theorems as one
 use Rattle.canopyrail.specs.Answers.{answer_number, reason_in, file_in, record_in, field_in, other_in, refusal_word, answer_word}
 use Rattle.canopyrail.specs.Lent.{Holds, roomy, read_answer, Reads, WritesLent}
@@ -36,8 +37,8 @@ pub room-left : (file : ℕ) (v : Values) (room : List ℕ) (r : ℕ) (after : L
 room-left file v room r after w never = go w.answer w.says w.writes
   where
     go : (a : Answer) → r ≡ answer_word a → Writes file v room a after → after ≡ room
-    go Done e h = absurd (never e)
-    go (Refused reason field) e h = one.refusal-leaves-room file v room after reason field h
+    go (Ok u) e h = absurd (never e)
+    go (Err r) e h = one.refusal-leaves-room file v room after r.reason r.field h
 
 -- ONE OUTCOME
 module _ {v : Values} {n : List ℕ} {c : List ℤ} {l t n' n'' : List ℕ} {c' c'' : List ℤ} {l' t' l'' t'' : List ℕ} where
@@ -94,65 +95,69 @@ refusal-tells reason field h e =
     (ap reason_in e ∙ p.0, ap field_in e ∙ p.3)
 
 -- no field past the last that a record may have is refused
-field-zero : {reason reason' : Reason} {field : ℕ} → Refused reason field ≡ Refused reason' 0 → field ≤ most_fields
+field-zero : {reason reason' : Reason} {field : ℕ} → refused reason field ≡ refused reason' 0 → field ≤ most_fields
 field-zero {field = field} e =
-    let z : field ≡ 0 = cc in
+    let z : field ≡ 0 = ap field_of e in
     omega arith
+  where
+    field_of : Answer → ℕ
+    field_of (Ok u) = 0
+    field_of (Err r) = r.field
 
-read-field-fits : (file : ℕ) (s : List ℕ) (n : ℕ) (reason : Reason) (field : ℕ) → (read_of file s n).answer ≡ Refused reason field → field ≤ most_fields
+read-field-fits : (file : ℕ) (s : List ℕ) (n : ℕ) (reason : Reason) (field : ℕ) → answer_read (read_of file s n) ≡ refused reason field → field ≤ most_fields
 read-field-fits file s n reason field d = go (which_of file) refl
   where
-    there : (k : Kind) → which_of file ≡ File k → Dec (n ≡ 0) → Dec (count_of s k < n) → field ≤ most_fields
+    there : (k : Kind) → which_of file ≡ Some k → Dec (n ≡ 0) → Dec (count_of s k < n) → field ≤ most_fields
     there k e (yes z) p = field-zero (sym d ∙ ((one.reading-refuses-first file s n).1 k e).0 (inl z))
     there k e (no z) (yes p) = field-zero (sym d ∙ ((one.reading-refuses-first file s n).1 k e).0 (inr p))
     there k e (no z) (no p) = omega (arith, (((one.reading-refuses-first file s n).1 k e).1 (omega arith) (omega arith) reason field d).1, (sane k).few)
 
     go : (which : Which) → which_of file ≡ which → field ≤ most_fields
-    go NoFile e = field-zero (sym d ∙ (one.reading-refuses-first file s n).0 e)
-    go (File k) e = there k e (zero_or n) (dec_lt (count_of s k) n)
+    go None e = field-zero (sym d ∙ (one.reading-refuses-first file s n).0 e)
+    go (Some k) e = there k e (zero_or n) (dec_lt (count_of s k) n)
 
 written-field-fits :
-    (file : ℕ) (v : Values) (room after : List ℕ) (reason : Reason) (field : ℕ) → Writes file v room (Refused reason field) after → field ≤ most_fields
+    (file : ℕ) (v : Values) (room after : List ℕ) (reason : Reason) (field : ℕ) → Writes file v room (refused reason field) after → field ≤ most_fields
 written-field-fits file v room after reason field w = go (which_of file) refl
   where
-    there : (k : Kind) → which_of file ≡ File k → Dec (length room < length_of k) → field ≤ most_fields
-    there k e (yes p) = field-zero (((one.writing-refuses-first file v room (Refused reason field) after w).1 k e).0 p)
-    there k e (no p) = omega (arith, (((one.writing-refuses-first file v room (Refused reason field) after w).1 k e).1 (omega arith) reason field refl).2, (sane k).few)
+    there : (k : Kind) → which_of file ≡ Some k → Dec (length room < length_of k) → field ≤ most_fields
+    there k e (yes p) = field-zero (((one.writing-refuses-first file v room (refused reason field) after w).1 k e).0 p)
+    there k e (no p) = omega (arith, (((one.writing-refuses-first file v room (refused reason field) after w).1 k e).1 (omega arith) reason field refl).2, (sane k).few)
 
     go : (which : Which) → which_of file ≡ which → field ≤ most_fields
-    go NoFile e = field-zero ((one.writing-refuses-first file v room (Refused reason field) after w).0 e)
-    go (File k) e = there k e (dec_lt (length room) (length_of k))
+    go None e = field-zero ((one.writing-refuses-first file v room (refused reason field) after w).0 e)
+    go (Some k) e = there k e (dec_lt (length room) (length_of k))
 
 -- OF A REFUSAL
 pub read-tells :
     (file : ℕ) (s : List ℕ) (i : ℕ) (n : List ℕ) (c : List ℤ) (l t : List ℕ) (r : ℕ) (n' : List ℕ) (c' : List ℤ) (l' t' : List ℕ)
     → Reads file s i n c l t r n' c' l' t' → (r ≡ 0 → ⊥)
     → (reason : Reason) × (field : ℕ)
-    × (((read_of file s i).answer ≡ Refused reason field)
-    ⊎ (((read_of file s i).answer ≡ Done) × (roomy (length n) (length c) (length l) (length t) ≡ false) × (reason ≡ ShortRoom61) × (field ≡ 0)))
+    × ((answer_read (read_of file s i) ≡ refused reason field)
+    ⊎ ((answer_read (read_of file s i) ≡ Ok tt) × (roomy (length n) (length c) (length l) (length t) ≡ false) × (reason ≡ ShortRoom61) × (field ≡ 0)))
     × (reason_in r ≡ number_of reason)
     × (field_in r ≡ field)
-read-tells file s i n c l t r n' c' l' t' w never = go (read_of file s i).answer (roomy (length n) (length c) (length l) (length t)) refl refl w.says
+read-tells file s i n c l t r n' c' l' t' w never = go (answer_read (read_of file s i)) (roomy (length n) (length c) (length l) (length t)) refl refl w.says
   where
     go :
-        (a : Answer) (b : Bool) → (read_of file s i).answer ≡ a → roomy (length n) (length c) (length l) (length t) ≡ b → r ≡ read_answer a b
+        (a : Answer) (b : Bool) → answer_read (read_of file s i) ≡ a → roomy (length n) (length c) (length l) (length t) ≡ b → r ≡ read_answer a b
         → (reason : Reason) × (field : ℕ)
-        × (((read_of file s i).answer ≡ Refused reason field)
-        ⊎ (((read_of file s i).answer ≡ Done) × (roomy (length n) (length c) (length l) (length t) ≡ false) × (reason ≡ ShortRoom61) × (field ≡ 0)))
+        × ((answer_read (read_of file s i) ≡ refused reason field)
+        ⊎ ((answer_read (read_of file s i) ≡ Ok tt) × (roomy (length n) (length c) (length l) (length t) ≡ false) × (reason ≡ ShortRoom61) × (field ≡ 0)))
         × (reason_in r ≡ number_of reason)
         × (field_in r ≡ field)
-    go Done true p q e = absurd (never e)
-    go Done false p q e =
+    go (Ok u) true p q e = absurd (never e)
+    go (Ok u) false p q e =
         let h = refusal-tells ShortRoom61 0 (omega arith) e in
         (ShortRoom61, 0, inr (p, q, refl, refl), h.0, h.1)
-    go (Refused reason field) b p q e =
-        let h = refusal-tells reason field (read-field-fits file s i reason field p) e in
-        (reason, field, inl p, h.0, h.1)
+    go (Err x) b p q e =
+        let h = refusal-tells x.reason x.field (read-field-fits file s i x.reason x.field p) e in
+        (x.reason, x.field, inl p, h.0, h.1)
 
 pub written-tells :
     (file : ℕ) (v : Values) (room : List ℕ) (r : ℕ) (after : List ℕ) → WritesLent file v room r after → (r ≡ 0 → ⊥)
     → (reason : Reason) × (field : ℕ)
-    × (answer_as (which_of file) v (length room) ≡ Refused reason field)
+    × (answer_as (which_of file) v (length room) ≡ refused reason field)
     × (reason_in r ≡ number_of reason)
     × (field_in r ≡ field)
 written-tells file v room r after w never = go w.answer w.says w.writes
@@ -160,10 +165,10 @@ written-tells file v room r after w never = go w.answer w.says w.writes
     go :
         (a : Answer) → r ≡ answer_word a → Writes file v room a after
         → (reason : Reason) × (field : ℕ)
-        × (answer_as (which_of file) v (length room) ≡ Refused reason field)
+        × (answer_as (which_of file) v (length room) ≡ refused reason field)
         × (reason_in r ≡ number_of reason)
         × (field_in r ≡ field)
-    go Done e x = absurd (never e)
-    go (Refused reason field) e x =
-        let h = refusal-tells reason field (written-field-fits file v room after reason field x) e in
-        (reason, field, sym x.says, h.0, h.1)
+    go (Ok u) e x = absurd (never e)
+    go (Err y) e x =
+        let h = refusal-tells y.reason y.field (written-field-fits file v room after y.reason y.field x) e in
+        (y.reason, y.field, sym x.says, h.0, h.1)

@@ -2,29 +2,27 @@
 -- Assumes nothing.
 use Prim.Native.Nat.{ℕ, ◌+◌, ◌*◌, ◌/◌, ◌%◌, ◌<◌, ◌≤◌}
 use mathlib.Core.Bool.{Bool, true, false, ◌||◌}
-use mathlib.Core.List.{List, [], ◌∷◌, ◌++◌, map}
+use mathlib.Core.List.{List, ◌++◌}
 use mathlib.Core.Path.{◌≡◌, refl, sym, ap, ◌∙◌}
 use native.Mathlib.Omega.{arith}
 use lib.Dec.{eqb}
-use lib.ListN.{length, get_or, drop, replicate, get_or-append}
+use lib.ListN.{length, get_or, drop, get_or-append}
 use borrow.Author.Tests.{lt-ltb, le-ltb, eqb-true, eqb-false}
 use Rattle.laws.proofs.FindLaws.{true-false}
 use Rattle.laws.proofs.RowLaws.{row_at, length-row}
 use Rattle.record.specs.declared.reason.Reason.TheVariants.{ShortRoom61}
-use Rattle.record.specs.declared.reason.Finding.{Finding}
-use Rattle.record.specs.declared.reason.Finding.TheVariants.{Fine, Broken}
+use Rattle.record.specs.declared.reason.Break.{Break}
+use Rattle.record.specs.Breaks.{Finding}
+use Rattle.std.specs.Prelude.{Ok, Err}
 use Rattle.record.specs.Breaks.{fine}
-use Rattle.record.specs.Table.{file_count}
-use Rattle.record.specs.Files.{Files, files_of}
+use Rattle.record.specs.Files.{Files}
 use Rattle.judge.specs.Broken.{groups}
-use Rattle.judge.proofs.Cases.{no-files}
 use Rattle.grids.specs.Grid.{Grid, grid_of}
 use Rattle.grids.specs.Sum.{cell_at, plus, add_finding, add_of}
 use Rattle.grids.proofs.FillLaws.{Shaped, grid-same, shaped_row, cell_row}
 use Rattle.grids.proofs.GridLaws.{shaped-grid}
-use Rattle.grids.proofs.Meaning.{zero-exactly}
 use Rattle.grids.proofs.SumLaws.{fits-fine, added_is}
-use Rattle.canopyrail.specs.Answers.{refusal_word, finding_word}
+use Rattle.canopyrail.specs.Answers.{break_word, refusal_word, finding_word}
 use Rattle.canopyrail.specs.Cells.{cell_count, lent_cells, grid_in, too_few, Counts, Adds}
 use Rattle.canopyrail.proofs.CallLaws.{refusal-told, zero-fine}
 
@@ -47,11 +45,6 @@ put-held a rest s =
 
 pub grid-held : (files : Files) (rest : List ℕ) → grid_in (lent_cells (grid_of files) ++ rest) ≡ grid_of files
 grid-held files rest = put-held (grid_of files) rest (shaped-grid files)
-
--- THE GRID OF NO FILES is of zeros
-pub none-grid : {A : Type 0} (f : A → List ℕ) (l : List A) → length l ≡ 0 → replicate file_count (replicate groups 0) ≡ grid_of (files_of (map f l))
-none-grid f [] e = sym ((zero-exactly (files_of [])).0 no-files)
-none-grid f (x ∷ l) e = absurd (omega arith)
 
 -- THE CALLS, by what they found: too few cells,
 few-refused : {r : ℕ} → r ≡ refusal_word ShortRoom61 0 → r ≡ 0 → ⊥
@@ -84,16 +77,16 @@ module _ (into from : List ℕ) (li : cell_count ≤ length into) (lf : cell_cou
   found : v ≡ add_finding (grid_in into) (grid_in from)
   found = ev ∙ ap (λ (x : Grid). add_finding x b) ea ∙ ap (add_finding (grid_in into)) eb
 
-  pub adds-refused : {r : ℕ} → fine v ≡ false → r ≡ finding_word v → Adds into from r into
-  adds-refused {r} h e = record { says = rw l (e ∙ ap finding_word found); holds = λ z. absurd (not-zero (sym e ∙ z)); stays = λ _. refl }
+  pub adds-refused : {r : ℕ} {o : Break} → v ≡ Err o → r ≡ break_word o → Adds into from r into
+  adds-refused {r} {o} h e = record { says = rw l (e ∙ ap finding_word (sym h ∙ found)); holds = λ z. absurd (not-zero (sym e ∙ z)); stays = λ _. refl }
     where
-      not-zero : finding_word v ≡ 0 → ⊥
-      not-zero z = true-false (sym (ap fine (zero-fine v z)) ∙ h)
+      not-zero : break_word o ≡ 0 → ⊥
+      not-zero z = true-false (sym (ap fine (zero-fine (Err o) z)))
 
   -- and one that is not
-  pub adds-put : {s : Grid} {after : List ℕ} → fine v ≡ true → s ≡ add_of a b → after ≡ lent_cells s ++ drop cell_count into → Adds into from 0 after
+  pub adds-put : {s : Grid} {after : List ℕ} → v ≡ Ok tt → s ≡ add_of a b → after ≡ lent_cells s ++ drop cell_count into → Adds into from 0 after
   adds-put {s} {after} h es e =
-      let fine-is : add_finding (grid_in into) (grid_in from) ≡ Fine = sym found ∙ fine-only v h in
+      let fine-is : add_finding (grid_in into) (grid_in from) ≡ Ok tt = sym found ∙ h in
       let sum : s ≡ plus (grid_in into) (grid_in from) =
       es ∙ ap (λ (x : Grid). add_of x b) ea ∙ ap (add_of (grid_in into)) eb ∙ added_is (grid_in into) (grid_in from) (fits-fine (grid_in into) (grid_in from) fine-is) in
       record {
@@ -101,10 +94,6 @@ module _ (into from : List ℕ) (li : cell_count ≤ length into) (lf : cell_cou
         holds = λ _. e ∙ ap (λ (x : Grid). lent_cells x ++ drop cell_count into) sum;
         stays = λ no_zero. absurd (no_zero refl);
       }
-    where
-      fine-only : (w : Finding) → fine w ≡ true → w ≡ Fine
-      fine-only Fine e = refl
-      fine-only (Broken b) e = absurd (true-false (sym e))
 
 -- ONE OUTCOME of each call
 pub counts-once : (files : Files) (cells : List ℕ) (r r' : ℕ) (after after' : List ℕ) → Counts files cells r after → Counts files cells r' after' → (r ≡ r') × (after ≡ after')

@@ -16,7 +16,7 @@ use Rattle.laws.proofs.RowLaws.{and-true}
 use Rattle.laws.proofs.FindLaws.{true-false}
 use Rattle.record.specs.declared.kind.Kind.{Kind}
 use Rattle.record.specs.declared.reason.Break.{Break}
-use Rattle.record.specs.declared.reason.Finding.TheVariants.{Broken}
+use Rattle.std.specs.Prelude.{Err}
 use Rattle.record.specs.Table.{fields_of, file_of, limit, most_fields, file_count}
 use Rattle.record.specs.Files.{Files, delivery_of}
 use Rattle.record.specs.Cut.{count_of}
@@ -162,7 +162,7 @@ record-small files n k (suc i) f e least =
         go true q = absurd (least 10 k 0 0 (long-broken files k q) l)
         go false q = refl
 
-pub place-fits : (files : Files) (b : Break) → judged files ≡ Broken b → (b.file ≤ file_count) × (b.«record» ≤ limit + 1) × (b.field ≤ most_fields)
+pub place-fits : (files : Files) (b : Break) → judged files ≡ Err b → (b.file ≤ file_count) × (b.«record» ≤ limit + 1) × (b.field ≤ most_fields)
 unfolding FoundFirst
 place-fits files b e = go (subst (FoundFirst files) e (found-judged files))
   where

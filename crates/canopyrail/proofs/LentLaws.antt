@@ -1,13 +1,15 @@
 -- Lent memory filled with a record's values, and values taken from it.
 -- Assumes nothing.
 use Prim.Native.Nat.{ℕ, zero, suc, ◌+◌, ◌*◌, ◌-◌, ◌/◌, ◌<◌, ◌≤◌}
-use mathlib.Core.Bool.{Bool, true, false, not, ◌&&◌, and-false}
+use mathlib.Core.Bool.{Bool, true, false, not, ◌&&◌}
 use mathlib.Core.List.{List, ◌∷◌}
 use mathlib.Core.Path.{◌≡◌, refl, sym, ap, ap₂, ◌∙◌, subst}
 use native.Mathlib.Nat.{not-suc-le-zero}
 use native.Mathlib.Numerals.{add-one}
 use native.Mathlib.Decide.{dec_lt}
 use native.Mathlib.Omega.{arith}
+use Prim.Native.Nat.{min}
+use Rattle.std.proofs.lemmas.Bool.Decides.{nat_tests}
 use lib.Dec.{eqb, ltb, leb}
 use borrow.Author.Tests.{ltb-true, ltb-false, leb-true, lt-ltb, le-ltb, le-leb, lt-leb, not-true}
 use lib.IntN.{ℤ, pos}
@@ -24,8 +26,8 @@ use Rattle.field.proofs.TextLoops.{length-padded}
 use Rattle.record.specs.declared.kind.Kind.{Kind}
 use Rattle.record.specs.declared.kind.Form.{Form}
 use Rattle.record.specs.declared.kind.Form.TheVariants.{Words, Code, Sign, Number, Size}
-use Rattle.record.specs.declared.kind.Which.{Which}
-use Rattle.record.specs.declared.kind.Which.TheVariants.{NoFile, File}
+use Rattle.record.specs.Table.{Which}
+use Rattle.std.specs.Prelude.{None, Some}
 use Rattle.record.specs.declared.reason.Reason.{Reason}
 use Rattle.record.specs.declared.reason.Reason.TheVariants.{NoFile60, ShortRoom61}
 use Rattle.record.specs.Table.{Col, form_at, width_at, offset_at, fields_of, most_fields, widest, which_of}
@@ -34,9 +36,10 @@ use Rattle.record.specs.Says.{Said, missing, number, text, coordinate, said_as, 
 use Rattle.record.proofs.TableLaws.{sane, col-past}
 use Rattle.codec.specs.declared.values.Value.{Value}
 use Rattle.codec.specs.declared.values.Values.{Values}
-use Rattle.codec.specs.declared.values.Answer.{Answer}
-use Rattle.codec.specs.declared.values.Answer.TheVariants.{Done, Refused}
-use Rattle.codec.specs.declared.values.Reading.{Reading}
+use Rattle.codec.specs.Calls.{Answer}
+use Rattle.std.specs.Prelude.{Ok, Err}
+use Rattle.codec.specs.Calls.{refused}
+use Rattle.codec.specs.Calls.{Reading, answer_read, values_read}
 use Rattle.codec.specs.Values.{no_value, said_by, text_value, value_of, value_at, values_say, values_in}
 use Rattle.codec.specs.Calls.{Writes, read_in, read_of}
 use Rattle.codec.specs.machinery.Held.{value_by, text_held, held_at, say_by, SaySame, held_length, words_of}
@@ -129,16 +132,8 @@ module _ (s : List ℕ) (k : Kind) (n₀ : List ℕ) (z₀ : List ℤ) (l₀ t�
       record { the_numbers = e.numbers; the_coordinates = e.coordinates; the_lengths = e.lengths; the_texts = e.texts }
 
 -- VALUES TAKEN where they lie: the fields that all four arrays reach
-pub below_both : (a b i : ℕ) → (a < b → ltb i a ≡ (ltb i a && ltb i b)) × (b ≤ a → ltb i b ≡ (ltb i a && ltb i b))
-below_both a b i = (λ l. go (ltb i a) refl l, λ l. stay (ltb i b) refl l)
-  where
-    go : (x : Bool) → ltb i a ≡ x → a < b → x ≡ (x && ltb i b)
-    go true e l = let h = ltb-true i a e in rw (lt-ltb i b (omega arith))
-    go false e l = refl
-
-    stay : (x : Bool) → ltb i b ≡ x → b ≤ a → x ≡ (ltb i a && x)
-    stay true e l = let h = ltb-true i b e in rw (lt-ltb i a (omega arith))
-    stay false e l = sym (and-false (ltb i a))
+pub below-min : (i a b : ℕ) → ltb i (min a b) ≡ (ltb i a && ltb i b)
+below-min i a b = grind (arith, nat_tests)
 
 pub text-reached : (t i : ℕ) → ltb i (t / widest) ≡ leb (widest * i + widest) t
 text-reached t i = go (dec_lt i (t / widest))
@@ -210,18 +205,18 @@ roomy-says a b c d e =
     not-below : (x y : ℕ) → not (ltb x y) ≡ true → y ≤ x
     not-below x y h = ltb-false x y (not-true (ltb x y) h)
 
-pub read_none : (file : ℕ) (s : List ℕ) (n : ℕ) {w : Which} → w ≡ which_of file → w ≡ NoFile → (read_of file s n).answer ≡ Refused NoFile60 0
+pub read_none : (file : ℕ) (s : List ℕ) (n : ℕ) {w : Which} → w ≡ which_of file → w ≡ None → answer_read (read_of file s n) ≡ refused NoFile60 0
 unfolding read_of
 read_none file s n e h = rw (← e, h)
 
-pub read_is : (file : ℕ) (s : List ℕ) (n : ℕ) (k : Kind) → which_of file ≡ File k → read_of file s n ≡ read_in s k n
+pub read_is : (file : ℕ) (s : List ℕ) (n : ℕ) (k : Kind) → which_of file ≡ Some k → read_of file s n ≡ read_in s k n
 unfolding read_of
 read_is file s n k e = rw e
 
 module _ {file : ℕ} {bytes : List ℕ} {n : ℕ} {numbers : List ℕ} {coordinates : List ℤ} {lengths texts : List ℕ} where
-  refused : {r : ℕ} → (r ≡ 0 → ⊥) → r ≡ read_answer (read_of file bytes n).answer (roomy (length numbers) (length coordinates) (length lengths) (length texts))
+  left : {r : ℕ} → (r ≡ 0 → ⊥) → r ≡ read_answer (answer_read (read_of file bytes n)) (roomy (length numbers) (length coordinates) (length lengths) (length texts))
       → Reads file bytes n numbers coordinates lengths texts r numbers coordinates lengths texts
-  refused never says =
+  left never says =
       record {
         says = says;
         holds = λ z. absurd (never z);
@@ -232,25 +227,25 @@ module _ {file : ℕ} {bytes : List ℕ} {n : ℕ} {numbers : List ℕ} {coordin
       }
 
   pub reads-refused :
-      {r : ℕ} (reason : Reason) (field : ℕ) → (read_of file bytes n).answer ≡ Refused reason field → r ≡ refusal_word reason field
+      {r : ℕ} (reason : Reason) (field : ℕ) → answer_read (read_of file bytes n) ≡ refused reason field → r ≡ refusal_word reason field
       → Reads file bytes n numbers coordinates lengths texts r numbers coordinates lengths texts
   reads-refused reason field a h =
-      refused (λ z. refusal-told reason field (sym h ∙ z)) (rw a h)
+      left (λ z. refusal-told reason field (sym h ∙ z)) (rw a h)
 
   pub reads-no-room :
-      {r : ℕ} → (read_of file bytes n).answer ≡ Done → roomy (length numbers) (length coordinates) (length lengths) (length texts) ≡ false → r ≡ refusal_word ShortRoom61 0
+      {r : ℕ} → answer_read (read_of file bytes n) ≡ Ok tt → roomy (length numbers) (length coordinates) (length lengths) (length texts) ≡ false → r ≡ refusal_word ShortRoom61 0
       → Reads file bytes n numbers coordinates lengths texts r numbers coordinates lengths texts
-  reads-no-room a m h = refused (λ z. refusal-told ShortRoom61 0 (sym h ∙ z)) (rw (a, m) h)
+  reads-no-room a m h = left (λ z. refusal-told ShortRoom61 0 (sym h ∙ z)) (rw (a, m) h)
 
   pub reads-done :
-      {numbers' : List ℕ} {coordinates' : List ℤ} {lengths' texts' : List ℕ} {v : Values} → record { answer = Done; values = v } ≡ read_of file bytes n
+      {numbers' : List ℕ} {coordinates' : List ℤ} {lengths' texts' : List ℕ} {v : Values} → Ok v ≡ read_of file bytes n
       → roomy (length numbers) (length coordinates) (length lengths) (length texts) ≡ true
       → Holds v numbers coordinates lengths texts numbers' coordinates' lengths' texts'
       → Reads file bytes n numbers coordinates lengths texts 0 numbers' coordinates' lengths' texts'
   reads-done {numbers'} {coordinates'} {lengths'} {texts'} e m h =
       record {
         says = rw (← e, m);
-        holds = λ z. subst (λ (x : Reading). Holds x.values numbers coordinates lengths texts numbers' coordinates' lengths' texts') e h;
+        holds = λ z. subst (λ (x : Reading). Holds (values_read x) numbers coordinates lengths texts numbers' coordinates' lengths' texts') e h;
         numbers_stay = λ never. absurd (never refl);
         coordinates_stay = λ never. absurd (never refl);
         lengths_stay = λ never. absurd (never refl);

@@ -28,7 +28,7 @@ use Rattle.record.specs.declared.kind.Domain.TheVariants.{ObjectType}
 use Rattle.record.specs.declared.reason.Reason.{Reason}
 use Rattle.record.specs.declared.reason.Reason.TheVariants.{LongFile10}
 use Rattle.record.specs.declared.reason.Break.{Break}
-use Rattle.record.specs.declared.reason.Finding.TheVariants.{Broken}
+use Rattle.std.specs.Prelude.{Err}
 use Rattle.record.specs.Table.{fields_of, form_at, domain_at, col_at, letter_of, target_of, limit}
 use Rattle.record.specs.Cut.{count_of, record_of, text_of}
 use Rattle.record.specs.Says.{said_as, said_in, letter_in, missing, text}
@@ -219,7 +219,7 @@ module _ (files : Files) (n : ℕ) (k : Kind) (i f : ℕ)
       go (suc (suc (suc (suc (suc (suc (suc zero))))))) u p q h = at-fits seventy_reasons u refl
       go (suc (suc (suc (suc (suc (suc (suc (suc t)))))))) u p q h = none_told
 
-pub other_fits : (files : Files) (b : Break) → judged files ≡ Broken b → other_of b.reason ≤ pick (eqb (number_of b.reason) 41) 255 limit
+pub other_fits : (files : Files) (b : Break) → judged files ≡ Err b → other_of b.reason ≤ pick (eqb (number_of b.reason) 41) 255 limit
 unfolding FoundFirst
 other_fits files b e = go (subst (FoundFirst files) e (found-judged files))
   where
@@ -228,7 +228,7 @@ other_fits files b e = go (subst (FoundFirst files) e (found-judged files))
 
 -- THE ANSWER: all that is shown is had back from it
 pub answer-tells :
-    (files : Files) (b : Break) → judged files ≡ Broken b
+    (files : Files) (b : Break) → judged files ≡ Err b
     → (reason_in (finding_word (judged files)) ≡ number_of b.reason)
     × (file_in (finding_word (judged files)) ≡ b.file)
     × (record_in (finding_word (judged files)) ≡ b.«record»)

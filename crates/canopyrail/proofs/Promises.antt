@@ -17,20 +17,21 @@ use Rattle.laws.specs.Count.{total}
 use Rattle.laws.specs.Nest.{before}
 use Rattle.laws.specs.Row.{pick}
 use Rattle.record.specs.declared.kind.Kind.{Kind}
-use Rattle.record.specs.declared.kind.Which.TheVariants.{NoFile, File}
+use Rattle.std.specs.Prelude.{None, Some}
 use Rattle.record.specs.declared.reason.Reason.{Reason}
 use Rattle.record.specs.declared.reason.Reason.TheVariants.{NoFile60, ShortRoom61, NoSuchRecord66}
 use Rattle.record.specs.declared.reason.Break.{Break}
-use Rattle.record.specs.declared.reason.Finding.TheVariants.{Fine, Broken}
+use Rattle.std.specs.Prelude.{Ok, Err}
 use Rattle.record.specs.Table.{fields_of, file_of, length_of, width_at, which_of, on_file, file_count, most_fields, limit}
 use Rattle.record.specs.Files.{Files, files_of}
 use Rattle.record.specs.Cut.{count_of, record_of}
 use Rattle.record.specs.Rules.{twenties}
 use Rattle.record.specs.Breaks.{number_of}
 use Rattle.codec.specs.declared.values.Values.{Values}
-use Rattle.codec.specs.declared.values.Answer.{Answer}
-use Rattle.codec.specs.declared.values.Answer.TheVariants.{Done, Refused}
-use Rattle.codec.specs.declared.values.Reading.{Reading}
+use Rattle.codec.specs.Calls.{Answer}
+use Rattle.std.specs.Prelude.{Ok, Err}
+use Rattle.codec.specs.Calls.{refused}
+use Rattle.codec.specs.Calls.{Reading, answer_read, values_read}
 use Rattle.codec.specs.Values.{values_say}
 use Rattle.codec.specs.Refusals.{sixties}
 use Rattle.codec.specs.Calls.{read_of, answer_as, room_as, Writes}
@@ -68,11 +69,11 @@ use Rattle.canopyrail.proofs.Back as back
 -- 1. TOTAL, AND LENT MEMORY. No call of the library asks for anything: each ends on every input with an outcome that its contract
 -- allows, and 9 says that there is one. A refusal leaves every lent byte; success writes at the start of the room and touches no other.
 pub refusal-leaves-room :
-    (file : ℕ) (v : Values) (room after : List ℕ) (reason : Reason) (field : ℕ) → Writes file v room (Refused reason field) after → after ≡ room
+    (file : ℕ) (v : Values) (room after : List ℕ) (reason : Reason) (field : ℕ) → Writes file v room (refused reason field) after → after ≡ room
 refusal-leaves-room = one.refusal-leaves-room
 
 pub success-touches-no-other :
-    (file : ℕ) (k : Kind) → which_of file ≡ File k → (v : Values) (room after : List ℕ) → Writes file v room Done after
+    (file : ℕ) (k : Kind) → which_of file ≡ Some k → (v : Values) (room after : List ℕ) → Writes file v room (Ok tt) after
     → (drop (length_of k) after ≡ drop (length_of k) room) × (length after ≡ length room)
 success-touches-no-other = one.success-touches-no-other
 
@@ -94,41 +95,41 @@ refused-adding-leaves-cells into from r after w = w.stays
 
 -- 2. CODEC. Reading what was written gives the same values;
 pub reads-what-was-written :
-    (file : ℕ) (k : Kind) → which_of file ≡ File k → (v : Values) (room after : List ℕ) → Writes file v room Done after
-    → ((read_of file after 1).answer ≡ Done)
-    × ((f : ℕ) → 1 ≤ f → f ≤ fields_of k → values_say k (read_of file after 1).values f ≡ values_say k v f)
+    (file : ℕ) (k : Kind) → which_of file ≡ Some k → (v : Values) (room after : List ℕ) → Writes file v room (Ok tt) after
+    → (answer_read (read_of file after 1) ≡ Ok tt)
+    × ((f : ℕ) → 1 ≤ f → f ≤ fields_of k → values_say k (values_read (read_of file after 1)) f ≡ values_say k v f)
 reads-what-was-written = one.reads-what-was-written
 
 -- writing what was read from a lawful record gives the same bytes.
 pub writes-what-was-read :
-    (file : ℕ) (k : Kind) → which_of file ≡ File k → (s : List ℕ) (n : ℕ) → (read_of file s n).answer ≡ Done
-    → (room after : List ℕ) (a : Answer) → length_of k ≤ length room → Writes file (read_of file s n).values room a after
-    → (a ≡ Done) × (after ≡ record_of s k (n - 1) ++ drop (length_of k) room)
+    (file : ℕ) (k : Kind) → which_of file ≡ Some k → (s : List ℕ) (n : ℕ) → answer_read (read_of file s n) ≡ Ok tt
+    → (room after : List ℕ) (a : Answer) → length_of k ≤ length room → Writes file (values_read (read_of file s n)) room a after
+    → (a ≡ Ok tt) × (after ≡ record_of s k (n - 1) ++ drop (length_of k) room)
 writes-what-was-read = one.writes-what-was-read
 
 -- A record is read exactly if it is lawful: none of the tests 20 to 25 holds at any of its fields (0 is the record); what is written is.
 pub lawful-exactly-if-read :
-    (file : ℕ) (k : Kind) → which_of file ≡ File k → (s : List ℕ) (n : ℕ) → 1 ≤ n → n ≤ count_of s k
-    → ((read_of file s n).answer ≡ Done → (f u : ℕ) → f ≤ fields_of k → get_or (twenties (record_of s k (n - 1)) k f) u false ≡ false)
-    × (((f u : ℕ) → f ≤ fields_of k → get_or (twenties (record_of s k (n - 1)) k f) u false ≡ false) → (read_of file s n).answer ≡ Done)
+    (file : ℕ) (k : Kind) → which_of file ≡ Some k → (s : List ℕ) (n : ℕ) → 1 ≤ n → n ≤ count_of s k
+    → (answer_read (read_of file s n) ≡ Ok tt → (f u : ℕ) → f ≤ fields_of k → get_or (twenties (record_of s k (n - 1)) k f) u false ≡ false)
+    × (((f u : ℕ) → f ≤ fields_of k → get_or (twenties (record_of s k (n - 1)) k f) u false ≡ false) → answer_read (read_of file s n) ≡ Ok tt)
 lawful-exactly-if-read = one.lawful-exactly-if-read
 
 pub written-is-lawful :
-    (file : ℕ) (k : Kind) → which_of file ≡ File k → (v : Values) (room after : List ℕ) → Writes file v room Done after
+    (file : ℕ) (k : Kind) → which_of file ≡ Some k → (v : Values) (room after : List ℕ) → Writes file v room (Ok tt) after
     → (f u : ℕ) → f ≤ fields_of k → get_or (twenties (record_of after k 0) k f) u false ≡ false
 written-is-lawful = one.written-is-lawful
 
 -- Values are written into a room that is long enough exactly if none of the tests 62 to 65 holds at any field;
 pub sayable-exactly-if-written :
-    (file : ℕ) (k : Kind) → which_of file ≡ File k → (v : Values) (room : List ℕ) (a : Answer) (after : List ℕ) → Writes file v room a after
+    (file : ℕ) (k : Kind) → which_of file ≡ Some k → (v : Values) (room : List ℕ) (a : Answer) (after : List ℕ) → Writes file v room a after
     → length_of k ≤ length room
-    → (a ≡ Done → (f u : ℕ) → f ≤ fields_of k → get_or (sixties k (values_say k v) f) u false ≡ false)
-    × (((f u : ℕ) → f ≤ fields_of k → get_or (sixties k (values_say k v) f) u false ≡ false) → a ≡ Done)
+    → (a ≡ Ok tt → (f u : ℕ) → f ≤ fields_of k → get_or (sixties k (values_say k v) f) u false ≡ false)
+    × (((f u : ℕ) → f ≤ fields_of k → get_or (sixties k (values_say k v) f) u false ≡ false) → a ≡ Ok tt)
 sayable-exactly-if-written = one.sayable-exactly-if-written
 
 -- and those that say the same in each field are answered and written alike.
 pub said-alike :
-    (file : ℕ) (k : Kind) → which_of file ≡ File k → (v w : Values)
+    (file : ℕ) (k : Kind) → which_of file ≡ Some k → (v w : Values)
     → ((f : ℕ) → 1 ≤ f → f ≤ fields_of k → values_say k v f ≡ values_say k w f) → (room : List ℕ)
     → (answer_as (which_of file) v (length room) ≡ answer_as (which_of file) w (length room))
     × ((a : Answer) → room_as (which_of file) v room a ≡ room_as (which_of file) w room a)
@@ -138,10 +139,10 @@ said-alike = one.said-alike
 -- reason of what is broken in the record, 20 to 25.
 pub reading-refuses-first :
     (file : ℕ) (s : List ℕ) (n : ℕ)
-    → (which_of file ≡ NoFile → (read_of file s n).answer ≡ Refused NoFile60 0)
-    × ((k : Kind) → which_of file ≡ File k
-    → ((n ≡ 0) ⊎ (count_of s k < n) → (read_of file s n).answer ≡ Refused NoSuchRecord66 0)
-    × (1 ≤ n → n ≤ count_of s k → (reason : Reason) (field : ℕ) → (read_of file s n).answer ≡ Refused reason field
+    → (which_of file ≡ None → answer_read (read_of file s n) ≡ refused NoFile60 0)
+    × ((k : Kind) → which_of file ≡ Some k
+    → ((n ≡ 0) ⊎ (count_of s k < n) → answer_read (read_of file s n) ≡ refused NoSuchRecord66 0)
+    × (1 ≤ n → n ≤ count_of s k → (reason : Reason) (field : ℕ) → answer_read (read_of file s n) ≡ refused reason field
     → (number_of reason / 10 ≡ 2)
     × (field ≤ fields_of k)
     × (get_or (twenties (record_of s k (n - 1)) k field) (number_of reason % 10) false ≡ true)
@@ -152,10 +153,10 @@ reading-refuses-first = one.reading-refuses-first
 -- Of writing: 60 where no file has the number; 61 where the room is too short; else the first by field and reason of 62 to 65.
 pub writing-refuses-first :
     (file : ℕ) (v : Values) (room : List ℕ) (a : Answer) (after : List ℕ) → Writes file v room a after
-    → (which_of file ≡ NoFile → a ≡ Refused NoFile60 0)
-    × ((k : Kind) → which_of file ≡ File k
-    → (length room < length_of k → a ≡ Refused ShortRoom61 0)
-    × (length_of k ≤ length room → (reason : Reason) (field : ℕ) → a ≡ Refused reason field
+    → (which_of file ≡ None → a ≡ refused NoFile60 0)
+    × ((k : Kind) → which_of file ≡ Some k
+    → (length room < length_of k → a ≡ refused ShortRoom61 0)
+    × (length_of k ≤ length room → (reason : Reason) (field : ℕ) → a ≡ refused reason field
     → (62 ≤ number_of reason)
     × (number_of reason ≤ 65)
     × (field ≤ fields_of k)
@@ -167,7 +168,7 @@ writing-refuses-first = one.writing-refuses-first
 -- The library's calls: a record that is read into lent arrays is written back from them, into any room that is long enough: 0, and the
 -- room begins with the record that was read, byte by byte, and is else as it was;
 pub read-is-written-back :
-    (file : ℕ) (k : Kind) → which_of file ≡ File k
+    (file : ℕ) (k : Kind) → which_of file ≡ Some k
     → (s : List ℕ) (n : ℕ) (N : List ℕ) (C : List ℤ) (L T N' : List ℕ) (C' : List ℤ) (L' T' : List ℕ) → Reads file s n N C L T 0 N' C' L' T'
     → (room : List ℕ) (r : ℕ) (after : List ℕ) → length_of k ≤ length room → WritesLent file (lent_values N' C' L' T') room r after
     → (r ≡ 0) × (after ≡ record_of s k (n - 1) ++ drop (length_of k) room)
@@ -175,7 +176,7 @@ read-is-written-back file k e s n N C L T N' C' L' T' w = back.written_back file
 
 -- what is written from lent arrays is read back into any that are long enough: 0, and they say the same in each field.
 pub written-is-read-back :
-    (file : ℕ) (k : Kind) → which_of file ≡ File k
+    (file : ℕ) (k : Kind) → which_of file ≡ Some k
     → (N : List ℕ) (C : List ℤ) (L T room after : List ℕ) → WritesLent file (lent_values N C L T) room 0 after
     → (N0 : List ℕ) (C0 : List ℤ) (L0 T0 : List ℕ) (r : ℕ) (N' : List ℕ) (C' : List ℤ) (L' T' : List ℕ)
     → roomy (length N0) (length C0) (length L0) (length T0) ≡ true → Reads file after 1 N0 C0 L0 T0 r N' C' L' T'
@@ -188,8 +189,8 @@ pub refused-reading-tells :
     (file : ℕ) (s : List ℕ) (n : ℕ) (N : List ℕ) (C : List ℤ) (L T : List ℕ) (r : ℕ) (N' : List ℕ) (C' : List ℤ) (L' T' : List ℕ)
     → Reads file s n N C L T r N' C' L' T' → (r ≡ 0 → ⊥)
     → (reason : Reason) × (field : ℕ)
-    × (((read_of file s n).answer ≡ Refused reason field)
-    ⊎ (((read_of file s n).answer ≡ Done) × (roomy (length N) (length C) (length L) (length T) ≡ false) × (reason ≡ ShortRoom61) × (field ≡ 0)))
+    × ((answer_read (read_of file s n) ≡ refused reason field)
+    ⊎ ((answer_read (read_of file s n) ≡ Ok tt) × (roomy (length N) (length C) (length L) (length T) ≡ false) × (reason ≡ ShortRoom61) × (field ≡ 0)))
     × (reason_in r ≡ number_of reason)
     × (field_in r ≡ field)
 refused-reading-tells = border.read-tells
@@ -198,12 +199,12 @@ refused-reading-tells = border.read-tells
 pub refused-writing-tells :
     (file : ℕ) (v : Values) (room : List ℕ) (r : ℕ) (after : List ℕ) → WritesLent file v room r after → (r ≡ 0 → ⊥)
     → (reason : Reason) × (field : ℕ)
-    × (answer_as (which_of file) v (length room) ≡ Refused reason field)
+    × (answer_as (which_of file) v (length room) ≡ refused reason field)
     × (reason_in r ≡ number_of reason)
     × (field_in r ≡ field)
 refused-writing-tells = border.written-tells
 
--- 3. THE VERDICT. Its finding is Fine exactly if no rule is broken; else it is the break that is broken and before which none is. Its
+-- 3. THE VERDICT. Its finding is Ok exactly if no rule is broken; else it is the break that is broken and before which none is. Its
 -- counts are the whole records of each file. Only one verdict means that. (A rule is broken where its test holds and no test of a lower ten
 -- does.)
 pub exact : (files : Files) → Judges files (verdict_of files)
@@ -216,32 +217,32 @@ exact_one = exactly.exact_one
 -- break shown.
 pub accepted-plainly :
     (files : Files)
-    → (judged files ≡ Fine → (n : ℕ) (k : Kind) (i f : ℕ) → holds files n k i f ≡ false)
-    × (((n : ℕ) (k : Kind) (i f : ℕ) → holds files n k i f ≡ false) → judged files ≡ Fine)
+    → (judged files ≡ Ok tt → (n : ℕ) (k : Kind) (i f : ℕ) → holds files n k i f ≡ false)
+    × (((n : ℕ) (k : Kind) (i f : ℕ) → holds files n k i f ≡ false) → judged files ≡ Ok tt)
 accepted-plainly = exactly.accepted-plainly
 
 pub first-plainly :
-    (files : Files) (b : Break) → judged files ≡ Broken b → (n : ℕ) (k : Kind) (i f : ℕ) → holds files n k i f ≡ true
+    (files : Files) (b : Break) → judged files ≡ Err b → (n : ℕ) (k : Kind) (i f : ℕ) → holds files n k i f ≡ true
     → before (place_at n k i f) (number_of b.reason / 10 ∷ b.file ∷ b.«record» ∷ b.field ∷ number_of b.reason ∷ []) ≡ true → ⊥
 first-plainly = exactly.first-plainly
 
 -- The library's answer is 0 exactly if the delivery is accepted;
-pub accepted-is-zero : (files : Files) → judged files ≡ Fine → finding_word (judged files) ≡ 0
+pub accepted-is-zero : (files : Files) → judged files ≡ Ok tt → finding_word (judged files) ≡ 0
 accepted-is-zero files e = ap finding_word e
 
-pub zero-is-accepted : (files : Files) → finding_word (judged files) ≡ 0 → judged files ≡ Fine
+pub zero-is-accepted : (files : Files) → finding_word (judged files) ≡ 0 → judged files ≡ Ok tt
 zero-is-accepted files e = calls.zero-fine (judged files) e
 
 -- else reason, file, record and field are had back from it, and what the reason carries: the earlier record of 30 and 54, the letter of
 -- 41. For all that is shown fits its digits.
-pub place-fits : (files : Files) (b : Break) → judged files ≡ Broken b → (b.file ≤ file_count) × (b.«record» ≤ limit + 1) × (b.field ≤ most_fields)
+pub place-fits : (files : Files) (b : Break) → judged files ≡ Err b → (b.file ≤ file_count) × (b.«record» ≤ limit + 1) × (b.field ≤ most_fields)
 place-fits = fits.place-fits
 
-pub other_fits : (files : Files) (b : Break) → judged files ≡ Broken b → other_of b.reason ≤ pick (eqb (number_of b.reason) 41) 255 limit
+pub other_fits : (files : Files) (b : Break) → judged files ≡ Err b → other_of b.reason ≤ pick (eqb (number_of b.reason) 41) 255 limit
 other_fits = others.other_fits
 
 pub answer-tells :
-    (files : Files) (b : Break) → judged files ≡ Broken b
+    (files : Files) (b : Break) → judged files ≡ Err b
     → (reason_in (finding_word (judged files)) ≡ number_of b.reason)
     × (file_in (finding_word (judged files)) ≡ b.file)
     × (record_in (finding_word (judged files)) ≡ b.«record»)
@@ -286,13 +287,13 @@ other-tens-zero = counted.other-tens-zero
 -- It is zero exactly if the delivery is accepted;
 pub grid-zero-exactly :
     (files : Files)
-    → (judged files ≡ Fine → grid_of files ≡ replicate file_count (replicate groups 0))
-    × (grid_of files ≡ replicate file_count (replicate groups 0) → judged files ≡ Fine)
+    → (judged files ≡ Ok tt → grid_of files ≡ replicate file_count (replicate groups 0))
+    × (grid_of files ≡ replicate file_count (replicate groups 0) → judged files ≡ Ok tt)
 grid-zero-exactly = counted.zero-exactly
 
 -- else the break shown is of the grid's ten, and its file's cell isn't zero.
 pub shown-is-counted :
-    (files : Files) (b : Break) → judged files ≡ Broken b
+    (files : Files) (b : Break) → judged files ≡ Err b
     → (k : Kind) × (file_of k ≡ b.file) × (lowest files ≡ number_of b.reason / 10) × (0 < cell_of files k (number_of b.reason / 10))
 shown-is-counted = counted.shown-counted
 
@@ -309,16 +310,16 @@ refused-67-exactly = sums.refused-exactly
 
 -- else each cell is the sum,
 pub added-exactly :
-    (a b : Grid) → add_finding a b ≡ Fine → (i g : ℕ) → i < file_count → g < groups → cell_at (add_of a b) i g ≡ cell_at a i g + cell_at b i g
+    (a b : Grid) → add_finding a b ≡ Ok tt → (i g : ℕ) → i < file_count → g < groups → cell_at (add_of a b) i g ≡ cell_at a i g + cell_at b i g
 added-exactly = sums.added-exactly
 
 -- in any order, and in any grouping, of which none is refused where one isn't.
-pub added-any-order : (a b : Grid) → add_finding a b ≡ Fine → (add_finding b a ≡ Fine) × (add_of a b ≡ add_of b a)
+pub added-any-order : (a b : Grid) → add_finding a b ≡ Ok tt → (add_finding b a ≡ Ok tt) × (add_of a b ≡ add_of b a)
 added-any-order = sums.added-any-order
 
 pub added-any-grouping :
-    (a b c : Grid) → add_finding a b ≡ Fine → add_finding (add_of a b) c ≡ Fine
-    → (add_finding b c ≡ Fine) × (add_finding a (add_of b c) ≡ Fine) × (add_of (add_of a b) c ≡ add_of a (add_of b c))
+    (a b c : Grid) → add_finding a b ≡ Ok tt → add_finding (add_of a b) c ≡ Ok tt
+    → (add_finding b c ≡ Ok tt) × (add_finding a (add_of b c) ≡ Ok tt) × (add_of (add_of a b) c ≡ add_of a (add_of b c))
 added-any-grouping = sums.added-any-grouping
 
 -- The grid that the library puts into lent cells is the one that it takes from them.

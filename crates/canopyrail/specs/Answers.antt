@@ -4,11 +4,11 @@ use Rattle.std.specs.Prelude.{ℕ, ◌+◌, ◌*◌, ◌/◌, ◌%◌}
 use Rattle.record.specs.declared.reason.Reason.{Reason}
 use Rattle.record.specs.declared.reason.Reason.TheVariants as R
 use Rattle.record.specs.declared.reason.Break.{Break}
-use Rattle.record.specs.declared.reason.Finding.{Finding}
-use Rattle.record.specs.declared.reason.Finding.TheVariants.{Fine, Broken}
+use Rattle.record.specs.Breaks.{Finding}
+use Rattle.std.specs.Prelude.{Ok, Err}
 use Rattle.record.specs.Breaks.{number_of}
-use Rattle.codec.specs.declared.values.Answer.{Answer}
-use Rattle.codec.specs.declared.values.Answer.TheVariants.{Done, Refused}
+use Rattle.codec.specs.Calls.{Answer}
+use Rattle.std.specs.Prelude.{Ok, Err}
 
 -- what a reason carries besides its place: the earlier record (30, 54), the letter that the code is catalogued under (41)
 abbrev pub other_of : Reason → ℕ
@@ -82,9 +82,9 @@ refusal_word reason field = answer_number (number_of reason) 0 0 field 0
 
 -- THE ANSWERS: of a judging, and of a call on one record
 abbrev pub finding_word : Finding → ℕ
-finding_word Fine = 0
-finding_word (Broken b) = break_word b
+finding_word (Ok u) = 0
+finding_word (Err b) = break_word b
 
 abbrev pub answer_word : Answer → ℕ
-answer_word Done = 0
-answer_word (Refused reason field) = refusal_word reason field
+answer_word (Ok u) = 0
+answer_word (Err r) = refusal_word r.reason r.field

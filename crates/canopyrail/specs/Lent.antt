@@ -12,10 +12,10 @@ use Rattle.record.specs.Table.{form_at, width_at, offset_at, most_fields, widest
 use Rattle.record.specs.declared.reason.Reason.TheVariants.{ShortRoom61}
 use Rattle.codec.specs.declared.values.Value.{Value}
 use Rattle.codec.specs.declared.values.Values.{Values}
-use Rattle.codec.specs.declared.values.Answer.{Answer}
-use Rattle.codec.specs.declared.values.Answer.TheVariants.{Done, Refused}
+use Rattle.codec.specs.Calls.{Answer}
+use Rattle.std.specs.Prelude.{Ok, Err}
 use Rattle.codec.specs.Values.{no_value, value_at}
-use Rattle.codec.specs.Calls.{read_of, Writes}
+use Rattle.codec.specs.Calls.{answer_read, values_read, read_of, Writes}
 use Rattle.canopyrail.specs.Answers.{answer_word, refusal_word}
 
 -- THE FIELDS, as a host is told of them: 0 where there is no field
@@ -69,14 +69,14 @@ roomy numbers coordinates lengths texts =
 
 -- a lawful record for whose values there is no room is refused with 61
 abbrev pub read_answer : Answer → Bool → ℕ
-read_answer Done true = 0
-read_answer Done false = refusal_word ShortRoom61 0
-read_answer (Refused reason field) room = refusal_word reason field
+read_answer (Ok u) true = 0
+read_answer (Ok u) false = refusal_word ShortRoom61 0
+read_answer (Err r) room = refusal_word r.reason r.field
 
 -- file number, the file's bytes, record number; the lent memory before and after
 pub record Reads (file : ℕ) (bytes : List ℕ) (n : ℕ) (numbers : List ℕ) (coordinates : List ℤ) (lengths texts : List ℕ) (r : ℕ) (numbers' : List ℕ) (coordinates' : List ℤ) (lengths' texts' : List ℕ) : Type 0 where
-  pub says : r ≡ read_answer (read_of file bytes n).answer (roomy (length numbers) (length coordinates) (length lengths) (length texts))
-  pub holds : r ≡ 0 → Holds (read_of file bytes n).values numbers coordinates lengths texts numbers' coordinates' lengths' texts'
+  pub says : r ≡ read_answer (answer_read (read_of file bytes n)) (roomy (length numbers) (length coordinates) (length lengths) (length texts))
+  pub holds : r ≡ 0 → Holds (values_read (read_of file bytes n)) numbers coordinates lengths texts numbers' coordinates' lengths' texts'
   pub numbers_stay : (r ≡ 0 → ⊥) → numbers' ≡ numbers
   pub coordinates_stay : (r ≡ 0 → ⊥) → coordinates' ≡ coordinates
   pub lengths_stay : (r ≡ 0 → ⊥) → lengths' ≡ lengths

@@ -1,10 +1,10 @@
-// The answer of a call is one number: 0 where nothing is wrong, else the reason and its place in decimal digits, as the verdict
-// program's line has them. So an answer needs no lent memory, and a refused call has none to leave alone.
+// The answer of a call is one number, as the C interface has it: 0 where nothing is wrong, else the reason and its place in decimal
+// digits, as the verdict program's line has them. So an answer needs no lent memory, and a refused call has none to leave alone.
 ghost use Rattle.std.specs.Prelude.{◌≡◌, ◌<◌, ◌/◌, ◌%◌};
 ghost use Rattle.record.specs.Breaks.{number_of};
 ghost use Rattle.canopyrail.specs.Answers.{other_of, answer_number, refusal_word, break_word, finding_word, reason_in, file_in, record_in, field_in, other_in};
 
-use record::reason::{Break, Finding, Reason};
+use record::reason::{Break, Reason};
 
 // What a reason carries besides its place: the earlier record (30, 54) or the letter that the code is catalogued under (41).
 fn other_of(reason: Reason) -> u64
@@ -36,7 +36,7 @@ pub(crate) fn refusal(reason: Reason, field: usize) -> u64
     word_of(reason.number() as u64, 0, 0, field as u64, 0)
 }
 
-fn break_word(b: Break) -> u64
+pub(crate) fn break_word(b: Break) -> u64
     ensures { result ≡ break_word b }
 {
     let reason = b.reason;
@@ -49,12 +49,12 @@ fn break_word(b: Break) -> u64
     )
 }
 
-pub(crate) fn finding_word(v: Finding) -> u64
+pub(crate) fn finding_word(v: Result<(), Break>) -> u64
     ensures { result ≡ finding_word v }
 {
     match v {
-        Finding::Fine => 0,
-        Finding::Broken(b) => break_word(b),
+        Ok(()) => 0,
+        Err(b) => break_word(b),
     }
 }
 

@@ -3,7 +3,7 @@ ghost use Rattle.std.specs.Prelude.{◌≡◌, ◌++◌, map, ◌≤◌, length,
 ghost use Rattle.record.specs.Files.{files_of};
 ghost use Rattle.canopyrail.specs.Cells.{cell_count, lent_cells, grid_in, Counts, Adds};
 
-use crate::answer::{finding_word, refusal};
+use crate::answer::{break_word, refusal};
 use crate::delivery::all_files;
 use grids::grid::grid_of;
 use grids::sum::{add, add_finding};
@@ -11,7 +11,7 @@ use judge::judge::GROUPS;
 use record::kind::FILES;
 use record::reason::Reason;
 
-// So many cells a grid has.
+// So many cells a grid has; the C interface lends them in one row.
 const CELLS: usize = FILES * GROUPS;
 
 // Puts a grid into lent cells.
@@ -19,10 +19,8 @@ fn put_grid(grid: [[u64; GROUPS]; FILES], cells: &mut [u64])
     requires { cell_count ≤ length cells.old }
     ensures { cells.new ≡ lent_cells grid ++ drop cell_count cells.old }
 {
-    let mut c = 0;
-    while c < CELLS {
+    for c in 0..CELLS {
         cells[c] = grid[c / GROUPS][c % GROUPS];
-        c += 1;
     }
 }
 
@@ -32,14 +30,10 @@ fn grid_in(cells: &[u64]) -> [[u64; GROUPS]; FILES]
     ensures { result ≡ grid_in cells.now }
 {
     let mut grid = [[0u64; GROUPS]; FILES];
-    let mut i = 0;
-    while i < FILES {
-        let mut g = 0;
-        while g < GROUPS {
+    for i in 0..FILES {
+        for g in 0..GROUPS {
             grid[i][g] = cells[i * GROUPS + g];
-            g += 1;
         }
-        i += 1;
     }
     grid
 }
@@ -51,12 +45,7 @@ pub fn canopyrail_grid<'a, 'b>(files: &'b [&'a [u8]], cells: &mut [u64]) -> u64
     if cells.len() < CELLS {
         return refusal(Reason::ShortRoom61, 0);
     }
-    if files.len() == 0 {
-        put_grid([[0u64; GROUPS]; FILES], cells);
-        return 0;
-    }
-    let spare = files[0];
-    put_grid(grid_of(all_files(files, spare)), cells);
+    put_grid(grid_of(all_files(files)), cells);
     0
 }
 
@@ -72,10 +61,11 @@ pub fn canopyrail_grid_add(into: &mut [u64], from: &[u64]) -> u64
     }
     let a = grid_in(into);
     let b = grid_in(from);
-    let finding = add_finding(a, b);
-    if finding.is_fine() {
-        put_grid(add(a, b), into);
-        return 0;
+    match add_finding(a, b) {
+        Ok(()) => {
+            put_grid(add(a, b), into);
+            0
+        }
+        Err(over) => break_word(over),
     }
-    finding_word(finding)
 }

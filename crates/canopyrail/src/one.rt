@@ -1,5 +1,5 @@
-// One record read, or written, its values in lent memory: of each field a number, a coordinate, a length and sixty bytes of text. Each is
-// put where it will stay, and taken where it lies.
+// One record read, or written, its values in lent memory: of each field a number, a coordinate, a length and sixty bytes of text, side by
+// side in four arrays, as the C interface lends them. Each is put where it will stay, and taken where it lies.
 ghost use Rattle.std.specs.Prelude.{◌≡◌, ◌&&◌, ℕ, ◌<◌, ◌≤◌, ltb, length};
 ghost use Rattle.record.specs.Table.{most_fields, which_of};
 ghost use Rattle.codec.specs.Values.{values_in};
@@ -7,12 +7,13 @@ ghost use Rattle.canopyrail.specs.Lent.{roomy, Holds, Reads, is_lent, lent_value
 ghost use Rattle.canopyrail.specs.Answers.{answer_word};
 
 use crate::answer::refusal;
+use codec::held::Held;
 use codec::read::{answer_in, coordinate_as, length_as, number_as, put_words};
-use codec::values::Answer;
+use codec::values::Refusal;
 use codec::write::write_held;
 use field::words::put_text;
 use record::cut::{field, record_bytes};
-use record::kind::{Kind, MOST_FIELDS, WIDEST, Which, kind_of};
+use record::kind::{Kind, MOST_FIELDS, WIDEST, kind_of};
 use record::reason::Reason;
 
 // The texts of all fields, one after another.
@@ -32,8 +33,7 @@ fn lend_record(
 {
     let n = k.fields();
     let none = [0u8; 1];
-    let mut i = 0;
-    while i < MOST_FIELDS {
+    for i in 0..MOST_FIELDS {
         let from = WIDEST * i;
         let next = from + WIDEST;
         if i < n {
@@ -45,13 +45,11 @@ fn lend_record(
             coordinates[i] = coordinate_as(form, t, rec, k, i);
             lengths[i] = len;
             put_words(&mut texts[from..next], form, t, len);
-            i += 1;
         } else {
             numbers[i] = 0;
             coordinates[i] = 0;
             lengths[i] = 0;
             put_text(&mut texts[from..next], &none, 0);
-            i += 1;
         }
     }
 }
@@ -59,10 +57,7 @@ fn lend_record(
 fn has_room(numbers: usize, coordinates: usize, lengths: usize, texts: usize) -> bool
     ensures { result ≡ roomy numbers coordinates lengths texts }
 {
-    !(numbers < MOST_FIELDS)
-        & !(coordinates < MOST_FIELDS)
-        & !(lengths < MOST_FIELDS)
-        & !(texts < TEXTS)
+    numbers >= MOST_FIELDS && coordinates >= MOST_FIELDS && lengths >= MOST_FIELDS && texts >= TEXTS
 }
 
 // Reads record n, counted from 1, of the bytes of a file of the kind.
@@ -75,11 +70,11 @@ fn read_in(
     lengths: &mut [usize],
     texts: &mut [u8],
 ) -> u64
-    ensures { (file : ℕ) → which_of file ≡ Which.File k → Reads file bytes.now n numbers.old coordinates.old lengths.old texts.old result numbers.new coordinates.new lengths.new texts.new }
+    ensures { (file : ℕ) → which_of file ≡ Some k → Reads file bytes.now n numbers.old coordinates.old lengths.old texts.old result numbers.new coordinates.new lengths.new texts.new }
 {
     match answer_in(bytes, k, n) {
-        Answer::Refused(reason, field) => refusal(reason, field),
-        Answer::Done => {
+        Err(r) => refusal(r.reason, r.field),
+        Ok(()) => {
             if has_room(numbers.len(), coordinates.len(), lengths.len(), texts.len()) {
                 let rec = record_bytes(bytes, k, n - 1);
                 lend_record(rec, k, numbers, coordinates, lengths, texts);
@@ -104,16 +99,9 @@ pub fn canopyrail_read(
     ensures { Reads file bytes.now n numbers.old coordinates.old lengths.old texts.old result numbers.new coordinates.new lengths.new texts.new }
 {
     match kind_of(file) {
-        Which::NoFile => refusal(Reason::NoFile60, 0),
-        Which::File(k) => read_in(k, bytes, n, numbers, coordinates, lengths, texts),
+        None => refusal(Reason::NoFile60, 0),
+        Some(k) => read_in(k, bytes, n, numbers, coordinates, lengths, texts),
     }
-}
-
-// The lesser of two counts: what is below it is below both.
-fn least(a: usize, b: usize) -> usize
-    ensures { (result ≤ a) × (result ≤ b) × ((i : ℕ) → ltb i result ≡ (ltb i a && ltb i b)) }
-{
-    if a < b { a } else { b }
 }
 
 // How many fields all four arrays, of these lengths, reach. Past the end of a shorter array every value is missing: a length without its
@@ -121,15 +109,15 @@ fn least(a: usize, b: usize) -> usize
 fn reach(numbers: usize, coordinates: usize, lengths: usize, texts: usize) -> usize
     ensures { (result ≤ lengths) × ((i : ℕ) → ltb i result ≡ is_lent numbers coordinates lengths texts i) }
 {
-    least(least(least(numbers, coordinates), lengths), texts / WIDEST)
+    numbers.min(coordinates).min(lengths).min(texts / WIDEST)
 }
 
-fn answer_word(a: Answer) -> u64
+fn answer_word(a: Result<(), Refusal>) -> u64
     ensures { result ≡ answer_word a }
 {
     match a {
-        Answer::Done => 0,
-        Answer::Refused(reason, field) => refusal(reason, field),
+        Ok(()) => 0,
+        Err(r) => refusal(r.reason, r.field),
     }
 }
 
@@ -145,5 +133,11 @@ pub fn canopyrail_write(
     ensures { WritesLent file (lent_values numbers.now coordinates.now lengths.now texts.now) room.old result room.new }
 {
     let n = reach(numbers.len(), coordinates.len(), lengths.len(), texts.len());
-    answer_word(write_held(file, numbers, coordinates, &lengths[..n], texts, room))
+    let held = Held {
+        numbers,
+        coordinates,
+        lengths: &lengths[..n],
+        texts,
+    };
+    answer_word(write_held(file, &held, room))
 }

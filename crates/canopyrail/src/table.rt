@@ -1,29 +1,23 @@
-// The table of the files: how many fields, how many bytes, where a field begins, how wide it is and what it holds. 0 of no file and of
-// no field.
+// The table of the files: how many fields, how many bytes, where a field begins, how wide it is and what it holds. The C interface asks
+// by numbers and is answered by them: 0 of no file and of no field.
 ghost use Rattle.std.specs.Prelude.{◌≡◌, ℕ};
 ghost use Rattle.record.specs.Table.{which_of, fields_of, length_of, width_at, on_file};
 ghost use Rattle.canopyrail.specs.Lent.{lent_offset, form_number, lent_form};
 
-use record::kind::{Form, Kind, Which, kind_of};
+use record::kind::{Form, Kind, kind_of};
 
 // The number of fields of the file's records.
 pub fn canopyrail_fields(file: usize) -> usize
     ensures { result ≡ on_file fields_of (which_of file) }
 {
-    match kind_of(file) {
-        Which::NoFile => 0,
-        Which::File(k) => k.fields(),
-    }
+    kind_of(file).map_or(0, |k| k.fields())
 }
 
 // The bytes of a record.
 pub fn canopyrail_length(file: usize) -> usize
     ensures { result ≡ on_file length_of (which_of file) }
 {
-    match kind_of(file) {
-        Which::NoFile => 0,
-        Which::File(k) => k.length(),
-    }
+    kind_of(file).map_or(0, |k| k.length())
 }
 
 // How many bytes of the record stand before the field.
@@ -36,20 +30,14 @@ fn offset_in(k: Kind, f: usize) -> usize
 pub fn canopyrail_offset(file: usize, field: usize) -> usize
     ensures { result ≡ on_file (λ k. lent_offset k field) (which_of file) }
 {
-    match kind_of(file) {
-        Which::NoFile => 0,
-        Which::File(k) => offset_in(k, field),
-    }
+    kind_of(file).map_or(0, |k| offset_in(k, field))
 }
 
 // The width of the field.
 pub fn canopyrail_width(file: usize, field: usize) -> usize
     ensures { result ≡ on_file (λ k. width_at k field) (which_of file) }
 {
-    match kind_of(file) {
-        Which::NoFile => 0,
-        Which::File(k) => k.width(field),
-    }
+    kind_of(file).map_or(0, |k| k.width(field))
 }
 
 fn form_number(form: Form) -> usize
@@ -78,8 +66,5 @@ fn form_in(k: Kind, f: usize) -> usize
 pub fn canopyrail_form(file: usize, field: usize) -> usize
     ensures { result ≡ on_file (λ k. lent_form k field) (which_of file) }
 {
-    match kind_of(file) {
-        Which::NoFile => 0,
-        Which::File(k) => form_in(k, field),
-    }
+    kind_of(file).map_or(0, |k| form_in(k, field))
 }

@@ -21,18 +21,18 @@ use Rattle.record.specs.declared.kind.Kind.{Kind}
 use Rattle.record.specs.declared.reason.Reason.{Reason}
 use Rattle.record.specs.declared.reason.Reason.TheVariants.{LongFile10}
 use Rattle.record.specs.declared.reason.Break.{Break}
-use Rattle.record.specs.declared.reason.Finding.TheVariants.{Fine, Broken}
+use Rattle.std.specs.Prelude.{Ok, Err}
 use Rattle.record.specs.Table.{fields_of}
 use Rattle.record.specs.Rules.{twenties}
 use Rattle.record.specs.Breaks.{number_of, break_of, at_place, finding_of, twenty_reasons, record_breaks, record_finding}
 use Rattle.record.specs.Says.{Said}
 use Rattle.codec.specs.Refusals.{sixties, sixty_reasons, value_breaks, values_finding}
 
-fine-none : (o : Option Break) → finding_of o ≡ Fine → o ≡ none
+fine-none : (o : Option Break) → finding_of o ≡ Ok tt → o ≡ none
 fine-none none e = refl
 fine-none (some b) e = absurd (let z : ◌≡◌ {A = ℕ} 0 1 = cc in omega arith)
 
-broken-some : (o : Option Break) (b : Break) → finding_of o ≡ Broken b → o ≡ some b
+broken-some : (o : Option Break) (b : Break) → finding_of o ≡ Err b → o ≡ some b
 broken-some none b e = absurd (let z : ◌≡◌ {A = ℕ} 0 1 = cc in omega arith)
 broken-some (some b') b e = cc
 
@@ -51,8 +51,8 @@ module _ (n : ℕ) (tests : ℕ → List Bool) (reasons : List Reason) (k : Kind
   none-past {m} e f u l = false-at (tests f) (λ j q. hit-none _ _ (none-at _ (length (tests f)) (none-at _ m e l) q)) u
 
   pub place-fine :
-      (finding_of (run (node (n + 1) (λ f. at_place (tests f) reasons k i f))) ≡ Fine → (f u : ℕ) → f ≤ n → get_or (tests f) u false ≡ false)
-      × (((f u : ℕ) → f ≤ n → get_or (tests f) u false ≡ false) → finding_of (run (node (n + 1) (λ f. at_place (tests f) reasons k i f))) ≡ Fine)
+      (finding_of (run (node (n + 1) (λ f. at_place (tests f) reasons k i f))) ≡ Ok tt → (f u : ℕ) → f ≤ n → get_or (tests f) u false ≡ false)
+      × (((f u : ℕ) → f ≤ n → get_or (tests f) u false ≡ false) → finding_of (run (node (n + 1) (λ f. at_place (tests f) reasons k i f))) ≡ Ok tt)
   unfolding run at_place
   place-fine = (
     λ e f u l. none-past (fine-none _ e) f u (omega arith),
@@ -88,7 +88,7 @@ module _ (n : ℕ) (tests : ℕ → List Bool) (reasons : List Reason) (k : Kind
         }
 
     pub place-first :
-        (b : Break) → finding_of (run (node (n + 1) (λ f. at_place (tests f) reasons k i f))) ≡ Broken b → First n base tests (number_of b.reason) b.field
+        (b : Break) → finding_of (run (node (n + 1) (λ f. at_place (tests f) reasons k i f))) ≡ Err b → First n base tests (number_of b.reason) b.field
     unfolding run at_place
     place-first b e =
         let r = some_at _ (n + 1) (broken-some _ b e) in
@@ -101,13 +101,13 @@ module _ (n : ℕ) (tests : ℕ → List Bool) (reasons : List Reason) (k : Kind
 -- the bytes of a record,
 pub record-fine :
     (s : List ℕ) (k : Kind) (i : ℕ)
-    → (record_finding s k i ≡ Fine → (f u : ℕ) → f ≤ fields_of k → get_or (twenties s k f) u false ≡ false)
-    × (((f u : ℕ) → f ≤ fields_of k → get_or (twenties s k f) u false ≡ false) → record_finding s k i ≡ Fine)
+    → (record_finding s k i ≡ Ok tt → (f u : ℕ) → f ≤ fields_of k → get_or (twenties s k f) u false ≡ false)
+    × (((f u : ℕ) → f ≤ fields_of k → get_or (twenties s k f) u false ≡ false) → record_finding s k i ≡ Ok tt)
 unfolding record_finding record_breaks
 record-fine s k i = place-fine (fields_of k) (twenties s k) twenty_reasons k i
 
 pub record-first :
-    (s : List ℕ) (k : Kind) (i : ℕ) (b : Break) → record_finding s k i ≡ Broken b
+    (s : List ℕ) (k : Kind) (i : ℕ) (b : Break) → record_finding s k i ≡ Err b
     → First (fields_of k) 20 (twenties s k) (number_of b.reason) b.field
 unfolding record_finding record_breaks any first_index first_of
 record-first s k i = place-first (fields_of k) (twenties s k) twenty_reasons k i 20 refl (λ f. omega arith)
@@ -115,13 +115,13 @@ record-first s k i = place-first (fields_of k) (twenties s k) twenty_reasons k i
 -- and what is to be written
 pub values-fine :
     (k : Kind) (v : ℕ → Said)
-    → (values_finding k v ≡ Fine → (f u : ℕ) → f ≤ fields_of k → get_or (sixties k v f) u false ≡ false)
-    × (((f u : ℕ) → f ≤ fields_of k → get_or (sixties k v f) u false ≡ false) → values_finding k v ≡ Fine)
+    → (values_finding k v ≡ Ok tt → (f u : ℕ) → f ≤ fields_of k → get_or (sixties k v f) u false ≡ false)
+    × (((f u : ℕ) → f ≤ fields_of k → get_or (sixties k v f) u false ≡ false) → values_finding k v ≡ Ok tt)
 unfolding values_finding value_breaks
 values-fine k v = place-fine (fields_of k) (sixties k v) sixty_reasons k 0
 
 pub values-first :
-    (k : Kind) (v : ℕ → Said) (b : Break) → values_finding k v ≡ Broken b
+    (k : Kind) (v : ℕ → Said) (b : Break) → values_finding k v ≡ Err b
     → First (fields_of k) 62 (sixties k v) (number_of b.reason) b.field
 unfolding values_finding value_breaks any first_index first_of
 values-first k v = place-first (fields_of k) (sixties k v) sixty_reasons k 0 62 refl (λ f. omega arith)

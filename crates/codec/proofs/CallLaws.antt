@@ -3,7 +3,7 @@
 use Prim.Native.Nat.{ℕ, zero, suc, ◌-◌, ◌/◌, ◌%◌, ◌<◌, ◌≤◌}
 use mathlib.Core.Bool.{Bool, true, false, ◌||◌, or-true}
 use mathlib.Core.List.{List, [], ◌∷◌, ◌++◌}
-use mathlib.Core.Path.{◌≡◌, refl, sym, ap, ◌∙◌}
+use mathlib.Core.Path.{subst, ◌≡◌, refl, sym, ap, ◌∙◌}
 use mathlib.Core.Logic.{◌⊎◌, ⊎_elim}
 use native.Mathlib.Nat.{le-div_iff_mul-le, zero-mul, one-mul}
 use native.Mathlib.Decide.{dec_lt}
@@ -16,13 +16,13 @@ use Rattle.laws.specs.Nest.{before}
 use Rattle.laws.specs.Row.{pick}
 use Rattle.laws.proofs.RowLaws.{neither}
 use Rattle.record.specs.declared.kind.Kind.{Kind}
-use Rattle.record.specs.declared.kind.Which.{Which}
-use Rattle.record.specs.declared.kind.Which.TheVariants.{NoFile, File}
+use Rattle.record.specs.Table.{Which}
+use Rattle.std.specs.Prelude.{None, Some}
 use Rattle.record.specs.declared.reason.Reason.{Reason}
 use Rattle.record.specs.declared.reason.Reason.TheVariants.{ShortRoom61, NoSuchRecord66}
 use Rattle.record.specs.declared.reason.Break.{Break}
-use Rattle.record.specs.declared.reason.Finding.{Finding}
-use Rattle.record.specs.declared.reason.Finding.TheVariants.{Fine, Broken}
+use Rattle.record.specs.Breaks.{Finding}
+use Rattle.std.specs.Prelude.{Ok, Err}
 use Rattle.record.specs.Table.{col_at, form_at, fields_of, length_of, which_of}
 use Rattle.record.specs.Cut.{count_of, record_of}
 use Rattle.record.specs.Rules.{twenties}
@@ -30,13 +30,12 @@ use Rattle.record.specs.Breaks.{number_of, record_finding}
 use Rattle.record.proofs.TableLaws.{sane}
 use Rattle.record.proofs.CutLaws.{record-part}
 use Rattle.codec.specs.declared.values.Values.{Values}
-use Rattle.codec.specs.declared.values.Answer.{Answer}
-use Rattle.codec.specs.declared.values.Answer.TheVariants.{Done, Refused}
-use Rattle.codec.specs.declared.values.Reading.{Reading}
+use Rattle.codec.specs.declared.values.Refusal.{Refusal}
+use Rattle.std.specs.Prelude.{Ok, Err}
 use Rattle.codec.specs.Values.{value_at, values_say, values_in}
 use Rattle.codec.specs.Writes.{encode}
 use Rattle.codec.specs.Refusals.{sixties, values_finding}
-use Rattle.codec.specs.Calls.{answer_of, no_reading, read_found, read_in, read_of, answer_in, room_after, room_as, Writes}
+use Rattle.codec.specs.Calls.{Answer, Reading, answer_read, refused, answer_of, no_reading, read_found, read_in, read_of, answer_in, room_after, room_as, Writes}
 use Rattle.codec.proofs.EncodeLaws.{length-encode}
 use Rattle.codec.proofs.ReadLaws.{never_done, found-answer}
 use Rattle.codec.proofs.AllFalse.{First, record-first, values-first}
@@ -44,22 +43,25 @@ use Rattle.codec.proofs.Out.{values-shaped, written-lawful}
 use Rattle.codec.proofs.In.{encode_same, finding-same, same_bytes, read-writable, values-say}
 
 -- ANSWERS
-answer-done : (o : Finding) → answer_of o ≡ Done → o ≡ Fine
-answer-done Fine e = refl
-answer-done (Broken b) e = absurd (never_done e)
+answer-done : (o : Finding) → answer_of o ≡ Ok tt → o ≡ Ok tt
+answer-done (Ok u) e = refl
+answer-done (Err b) e = absurd (never_done e)
+
+-- what is told of a refusal
+Told : (Reason → ℕ → Type 0) → Answer → Type 0
+Told P (Ok u) = Unit
+Told P (Err r) = P r.reason r.field
 
 -- what the break found tells is told of the refusal
 answer-refused :
-    (P : Reason → ℕ → Type 0) (o : Finding) → ((b : Break) → o ≡ Broken b → P b.reason b.field) → (reason : Reason) (field : ℕ)
-    → answer_of o ≡ Refused reason field → P reason field
-answer-refused P Fine h reason field e = absurd (never_done (sym e))
-answer-refused P (Broken b) h reason field e =
-    let p : b.reason ≡ reason = cc in
-    let q : b.field ≡ field = cc in
-    rw (← p, ← q) (h b refl)
+    (P : Reason → ℕ → Type 0) (o : Finding) → ((b : Break) → o ≡ Err b → P b.reason b.field) → (reason : Reason) (field : ℕ)
+    → answer_of o ≡ refused reason field → P reason field
+unfolding Told
+answer-refused P (Ok u) h reason field e = absurd (never_done (sym e))
+answer-refused P (Err b) h reason field e = subst (λ (a : Answer). Told P a) e (h b refl)
 
 -- READING
-module _ (file : ℕ) (k : Kind) (e : which_of file ≡ File k) (s : List ℕ) (n : ℕ) where
+module _ (file : ℕ) (k : Kind) (e : which_of file ≡ Some k) (s : List ℕ) (n : ℕ) where
   -- a record that is not there,
   pub read_past : (n ≡ 0) ⊎ (count_of s k < n) → read_of file s n ≡ no_reading NoSuchRecord66 0
   unfolding read_of read_in
@@ -71,23 +73,23 @@ module _ (file : ℕ) (k : Kind) (e : which_of file ≡ File k) (s : List ℕ) (
   read-there a b = rw (e, ne_eqb n 0 (λ z. omega arith), le-ltb (count_of s k) n b)
 
   pub read-fine :
-      1 ≤ n → n ≤ count_of s k → record_finding (record_of s k (n - 1)) k n ≡ Fine
-      → read_of file s n ≡ record { answer = Done; values = values_in (record_of s k (n - 1)) k }
+      1 ≤ n → n ≤ count_of s k → record_finding (record_of s k (n - 1)) k n ≡ Ok tt
+      → read_of file s n ≡ Ok (values_in (record_of s k (n - 1)) k)
   read-fine a b h = read-there a b ∙ ap (read_found (record_of s k (n - 1)) k) h
 
-  pub fine-read : 1 ≤ n → n ≤ count_of s k → (read_of file s n).answer ≡ Done → record_finding (record_of s k (n - 1)) k n ≡ Fine
+  pub fine-read : 1 ≤ n → n ≤ count_of s k → answer_read (read_of file s n) ≡ Ok tt → record_finding (record_of s k (n - 1)) k n ≡ Ok tt
   fine-read a b d =
       let o = record_finding (record_of s k (n - 1)) k n in
-      answer-done o (sym (ap (λ (r : Reading). r.answer) (read-there a b) ∙ found-answer (record_of s k (n - 1)) k o) ∙ d)
+      answer-done o (sym (ap answer_read (read-there a b) ∙ found-answer (record_of s k (n - 1)) k o) ∙ d)
 
   -- what is read is there
-  pub done-there : (read_of file s n).answer ≡ Done → (1 ≤ n) × (n ≤ count_of s k)
+  pub done-there : answer_read (read_of file s n) ≡ Ok tt → (1 ≤ n) × (n ≤ count_of s k)
   unfolding read_of read_in
   done-there d = go (eqb n 0 || ltb (count_of s k) n) refl (rw e at d)
     where
       go :
           (b : Bool) → (eqb n 0 || ltb (count_of s k) n) ≡ b
-          → (pick b (no_reading NoSuchRecord66 0) (read_found (record_of s k (n - 1)) k (record_finding (record_of s k (n - 1)) k n))).answer ≡ Done
+          → answer_read (pick b (no_reading NoSuchRecord66 0) (read_found (record_of s k (n - 1)) k (record_finding (record_of s k (n - 1)) k n))) ≡ Ok tt
           → (1 ≤ n) × (n ≤ count_of s k)
       go true h d = absurd (never_done d)
       go false h d =
@@ -97,14 +99,14 @@ module _ (file : ℕ) (k : Kind) (e : which_of file ≡ File k) (s : List ℕ) (
 
 -- the first refusal of a record that is there
 pub refused-read :
-    (file : ℕ) (k : Kind) → which_of file ≡ File k → (s : List ℕ) (n : ℕ) → 1 ≤ n → n ≤ count_of s k → (reason : Reason) (field : ℕ)
-    → (read_of file s n).answer ≡ Refused reason field
+    (file : ℕ) (k : Kind) → which_of file ≡ Some k → (s : List ℕ) (n : ℕ) → 1 ≤ n → n ≤ count_of s k → (reason : Reason) (field : ℕ)
+    → answer_read (read_of file s n) ≡ refused reason field
     → First (fields_of k) 20 (twenties (record_of s k (n - 1)) k) (number_of reason) field
 refused-read file k e s n a b reason field d =
     let r = record_of s k (n - 1) in
     let o = record_finding r k n in
     answer-refused (λ x f. First (fields_of k) 20 (twenties r k) (number_of x) f) o (record-first r k n) reason field
-    (sym (ap (λ (x : Reading). x.answer) (read-there file k e s n a b) ∙ found-answer r k o) ∙ d)
+    (sym (ap answer_read (read-there file k e s n a b) ∙ found-answer r k o) ∙ d)
 
 -- it is of the twenties, and its test is that of its last digit
 pub twenty-first :
@@ -132,7 +134,7 @@ module _ (k : Kind) (t rest : List ℕ) (l : length t ≡ length_of k) where
   first-record = sym (record-part (t ++ rest) k 0 first-there {n = length_of k} refl) ∙ rw zero-mul (take_at t rest (length_of k) l)
 
 -- WRITING
-module _ (file : ℕ) (k : Kind) (e : which_of file ≡ File k) (v : Values) (room : List ℕ) (a : Answer) (after : List ℕ) (w : Writes file v room a after) where
+module _ (file : ℕ) (k : Kind) (e : which_of file ≡ Some k) (v : Values) (room : List ℕ) (a : Answer) (after : List ℕ) (w : Writes file v room a after) where
   wrote-answer : a ≡ answer_in k v (length room)
   wrote-answer = rw e at w.says
 
@@ -140,7 +142,7 @@ module _ (file : ℕ) (k : Kind) (e : which_of file ≡ File k) (v : Values) (ro
   wrote-room = rw e at w.leaves
 
   -- into a room that is too short,
-  pub wrote-short : length room < length_of k → a ≡ Refused ShortRoom61 0
+  pub wrote-short : length room < length_of k → a ≡ refused ShortRoom61 0
   unfolding answer_in
   wrote-short l = wrote-answer ∙ rw (lt-ltb (length room) (length_of k) l)
 
@@ -150,44 +152,44 @@ module _ (file : ℕ) (k : Kind) (e : which_of file ≡ File k) (v : Values) (ro
   wrote-long l = wrote-answer ∙ rw (le-ltb (length room) (length_of k) l)
 
   pub wrote-refused :
-      length_of k ≤ length room → (reason : Reason) (field : ℕ) → a ≡ Refused reason field
+      length_of k ≤ length room → (reason : Reason) (field : ℕ) → a ≡ refused reason field
       → First (fields_of k) 62 (sixties k (values_say k v)) (number_of reason) field
   wrote-refused l reason field d =
       answer-refused (λ x f. First (fields_of k) 62 (sixties k (values_say k v)) (number_of x) f) (values_finding k (values_say k v))
       (values-first k (values_say k v)) reason field (sym (wrote-long l) ∙ d)
 
   -- what is written fits, and nothing in it is refused
-  pub wrote-fits : a ≡ Done → length_of k ≤ length room
+  pub wrote-fits : a ≡ Ok tt → length_of k ≤ length room
   wrote-fits d = go (dec_lt (length room) (length_of k))
     where
       go : Dec (length room < length_of k) → length_of k ≤ length room
       go (yes l) = absurd (never_done (sym (wrote-short l) ∙ d))
       go (no l) = omega arith
 
-  pub wrote-fine : a ≡ Done → values_finding k (values_say k v) ≡ Fine
+  pub wrote-fine : a ≡ Ok tt → values_finding k (values_say k v) ≡ Ok tt
   wrote-fine d = answer-done _ (sym (wrote-long (wrote-fits d)) ∙ d)
 
-  pub wrote-bytes : a ≡ Done → after ≡ encode k (values_say k v) ++ drop (length_of k) room
+  pub wrote-bytes : a ≡ Ok tt → after ≡ encode k (values_say k v) ++ drop (length_of k) room
   wrote-bytes d = rw d at wrote-room
 
 -- WRITTEN, then read: the record that stands first in the room
 pub read-written :
-    (file : ℕ) (k : Kind) → which_of file ≡ File k → (v : Values) (room after : List ℕ) → Writes file v room Done after
-    → read_of file after 1 ≡ record { answer = Done; values = values_in (encode k (values_say k v)) k }
+    (file : ℕ) (k : Kind) → which_of file ≡ Some k → (v : Values) (room after : List ℕ) → Writes file v room (Ok tt) after
+    → read_of file after 1 ≡ Ok (values_in (encode k (values_say k v)) k)
 read-written file k e v room after w =
     let t = encode k (values_say k v) in
     let rest = drop (length_of k) room in
     let l = length-encode k (values_say k v) in
     let q = first-record k t rest l in
-    let lawful = written-lawful k (values_say k v) (λ f _. values-shaped k v f) (wrote-fine file k e v room Done after w refl) 1 in
-    ap (λ (s : List ℕ). read_of file s 1) (wrote-bytes file k e v room Done after w refl)
+    let lawful = written-lawful k (values_say k v) (λ f _. values-shaped k v f) (wrote-fine file k e v room (Ok tt) after w refl) 1 in
+    ap (λ (s : List ℕ). read_of file s 1) (wrote-bytes file k e v room (Ok tt) after w refl)
     ∙ read-fine file k e (t ++ rest) 1 (omega arith) (first-there k t rest l) (rw q lawful)
-    ∙ ap (λ (s : List ℕ). record { answer = Done; values = values_in s k }) q
+    ∙ ap (λ (s : List ℕ). Ok (values_in s k)) q
 
 -- READ, then written: what was found to be fine is not refused, and gives its bytes
 pub written_read :
-    (s : List ℕ) (k : Kind) (i : ℕ) → length s ≡ length_of k → record_finding s k i ≡ Fine
-    → (values_finding k (values_say k (values_in s k)) ≡ Fine) × (encode k (values_say k (values_in s k)) ≡ s)
+    (s : List ℕ) (k : Kind) (i : ℕ) → length s ≡ length_of k → record_finding s k i ≡ Ok tt
+    → (values_finding k (values_say k (values_in s k)) ≡ Ok tt) × (encode k (values_say k (values_in s k)) ≡ s)
 written_read s k i l h = (
   finding-same k _ _ (values-say s k) ∙ read-writable s k i l h,
   encode_same k _ _ (values-say s k) ∙ same_bytes s k i l h,
@@ -207,10 +209,10 @@ answer-alike k v w n e = rw e
 
 pub room-alike :
     (k : Kind) (v w : Values) (room : List ℕ) (a : Answer) → encode k (values_say k v) ≡ encode k (values_say k w) → room_after k v room a ≡ room_after k w room a
-room-alike k v w room Done e = rw e
-room-alike k v w room (Refused reason field) e = refl
+room-alike k v w room (Ok u) e = rw e
+room-alike k v w room (Err r) e = refl
 
 -- a refusal, of any file
-pub room-refused : (which : Which) (v : Values) (room : List ℕ) (reason : Reason) (field : ℕ) → room_as which v room (Refused reason field) ≡ room
-room-refused NoFile v room reason field = refl
-room-refused (File k) v room reason field = refl
+pub room-refused : (which : Which) (v : Values) (room : List ℕ) (reason : Reason) (field : ℕ) → room_as which v room (refused reason field) ≡ room
+room-refused None v room reason field = refl
+room-refused (Some k) v room reason field = refl

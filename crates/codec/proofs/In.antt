@@ -20,7 +20,7 @@ use Rattle.record.specs.declared.kind.Kind.{Kind}
 use Rattle.record.specs.declared.kind.Form.{Form}
 use Rattle.record.specs.declared.kind.Form.TheVariants.{Sign, Size}
 use Rattle.record.specs.declared.kind.Domain.TheVariants.{PlusMinus}
-use Rattle.record.specs.declared.reason.Finding.TheVariants.{Fine}
+use Rattle.std.specs.Prelude.{Ok}
 use Rattle.record.specs.Table.{col_at, form_at, width_at, must_at, back_at, ahead_at, domain_at, offset_at, fields_of, length_of, widest, required, is_n}
 use Rattle.record.specs.machinery.Packed.{form_digit}
 use Rattle.record.specs.Cut.{text_of}
@@ -74,7 +74,7 @@ text-length : (s : List ℕ) (k : Kind) (f : ℕ) → length s ≡ length_of k �
 unfolding text_of
 text-length s k f l = length-take-le (width_at k f) (drop (offset_at k f) s) (rw length-drop (omega (arith, within k f)))
 
-module _ (s : List ℕ) (k : Kind) (i : ℕ) (l : length s ≡ length_of k) (ok : record_finding s k i ≡ Fine) where
+module _ (s : List ℕ) (k : Kind) (i : ℕ) (l : length s ≡ length_of k) (ok : record_finding s k i ≡ Ok tt) where
   -- no test holds at any place
   place : (f : ℕ) → f ≤ fields_of k → (u : ℕ) → get_or (twenties s k f) u false ≡ false
   place f h u = (record-fine s k i).0 ok f u h
@@ -194,7 +194,7 @@ module _ (s : List ℕ) (k : Kind) (i : ℕ) (l : length s ≡ length_of k) (ok 
   sixties-back f h (suc (suc (suc zero))) = not-outside (form_at k f) (domain_at k f) (text_of s k f) (text_of s k (f - 1)) (text_of s k (f + 1)) (domain-fits k f) (inside f h)
   sixties-back f h (suc (suc (suc (suc u)))) = refl
 
-  pub read-writable : values_finding k (said_in s k) ≡ Fine
+  pub read-writable : values_finding k (said_in s k) ≡ Ok tt
   read-writable = (values-fine k (said_in s k)).1 (λ f u h. sixties-back f h u)
 
 -- AS VALUES: the struct says what the record says

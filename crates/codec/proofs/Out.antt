@@ -22,7 +22,7 @@ use Rattle.record.proofs.PackedLaws.{domain-fits}
 use Rattle.record.specs.declared.kind.Kind.{Kind}
 use Rattle.record.specs.declared.kind.Form.{Form}
 use Rattle.record.specs.declared.kind.Form.TheVariants.{Words, Code, Sign, Number, Size}
-use Rattle.record.specs.declared.reason.Finding.TheVariants.{Fine}
+use Rattle.std.specs.Prelude.{Ok}
 use Rattle.record.specs.Table.{col_at, form_at, width_at, must_at, back_at, ahead_at, domain_at, fields_of}
 use Rattle.record.specs.Cut.{text_of}
 use Rattle.record.specs.Rules.{breaks22, breaks23, breaks24, breaks25, not_number, not_text, missing_in, outside, partners_blank, twenties}
@@ -92,7 +92,7 @@ module _ (s : List ℕ) (k : Kind) where
   unfolding breaks25 breaks22 breaks23 not_number not_text lawful_text edged_by trimmed trim_to form_at col_at text_of width_at all_of each missing_in
   none-25 = refl
 
-module _ (k : Kind) (v : ℕ → Said) (sh : (f : ℕ) → f ≤ fields_of k → shaped (form_at k f) (v f) ≡ true) (ok : values_finding k v ≡ Fine) where
+module _ (k : Kind) (v : ℕ → Said) (sh : (f : ℕ) → f ≤ fields_of k → shaped (form_at k f) (v f) ≡ true) (ok : values_finding k v ≡ Ok tt) where
   kept : (f u : ℕ) → f ≤ fields_of k → get_or (sixties k v f) u false ≡ false
   kept = (values-fine k v).0 ok
 
@@ -200,7 +200,7 @@ module _ (k : Kind) (v : ℕ → Said) (sh : (f : ℕ) → f ≤ fields_of k →
       let a : 1 ≤ suc g = omega arith in
       more (end-encode k v f) (more (bar-encode k v f) (more (keeps-22 f a b) (more (keeps-23 f a b) (more (keeps-24 f a b) (more (keeps-25 f a b) end)))))
 
-  pub written-lawful : (i : ℕ) → record_finding (encode k v) k i ≡ Fine
+  pub written-lawful : (i : ℕ) → record_finding (encode k v) k i ≡ Ok tt
   written-lawful i = (record-fine (encode k v) k i).1 (λ f u h. falses (keeps f h) u)
 
   pub said-back : (f : ℕ) → 1 ≤ f → f ≤ fields_of k → said_in (encode k v) k f ≡ v f

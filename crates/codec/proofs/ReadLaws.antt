@@ -22,10 +22,10 @@ use Rattle.field.proofs.TextLaws.{trimmed-blank, first-trimmed, padded-empty}
 use Rattle.record.specs.declared.kind.Kind.{Kind}
 use Rattle.record.specs.declared.kind.Form.{Form}
 use Rattle.record.specs.declared.kind.Form.TheVariants.{Words, Code, Sign, Number, Size}
-use Rattle.record.specs.declared.reason.Finding.{Finding}
+use Rattle.record.specs.Breaks.{Finding}
 use Rattle.record.specs.declared.reason.Reason.{Reason}
 use Rattle.record.specs.declared.reason.Reason.TheVariants.{NoSuchRecord66}
-use Rattle.record.specs.declared.reason.Finding.TheVariants.{Fine, Broken}
+use Rattle.std.specs.Prelude.{Ok, Err}
 use Rattle.record.specs.Table.{form_at, widest}
 use Rattle.record.specs.Cut.{count_of, record_of, text_of}
 use Rattle.record.specs.Breaks.{record_finding}
@@ -33,9 +33,9 @@ use Rattle.record.specs.Says.{Said, missing, number, text, coordinate, text_said
 use Rattle.record.proofs.SaysLaws.{Among}
 use Rattle.codec.specs.declared.values.Value.{Value}
 use Rattle.codec.specs.Values.{text_value, value_of, values_in}
-use Rattle.codec.specs.declared.values.Answer.{Answer}
-use Rattle.codec.specs.declared.values.Answer.TheVariants.{Done, Refused}
-use Rattle.codec.specs.Calls.{answer_of, no_reading, read_found, read_in}
+use Rattle.codec.specs.declared.values.Refusal.{Refusal}
+use Rattle.std.specs.Prelude.{Ok, Err}
+use Rattle.codec.specs.Calls.{Answer, Reading, answer_read, refused, answer_of, no_reading, read_found, read_in}
 use Rattle.codec.specs.machinery.Held.{held_length, words_length, words_of}
 
 -- A FIELD's value part by part
@@ -230,49 +230,47 @@ abbrev pub value_no : List ℕ → Kind → ℕ → Value
 value_no s k i = value_of (said_in s k (i + 1))
 
 -- ANSWERS
-pub never_done : {reason : Reason} {field : ℕ} → Refused reason field ≡ Done → ⊥
-never_done {reason} {field} e = let z : ◌≡◌ {A = ℕ} 0 1 = cc in omega arith
+pub never_done : {e : Refusal} → ◌≡◌ {A = Answer} (Err e) (Ok tt) → ⊥
+never_done e = let z : ◌≡◌ {A = ℕ} 0 1 = cc in omega arith
 
-refused-reason : {a b : Reason} {f g : ℕ} → Refused a f ≡ Refused b g → a ≡ b
-refused-reason e = cc
-
-refused-field : {a b : Reason} {f g : ℕ} → Refused a f ≡ Refused b g → f ≡ g
-refused-field e = cc
+-- a refusal as a reading
+abbrev to_reading : Answer → Reading
+to_reading (Ok u) = no_reading NoSuchRecord66 0
+to_reading (Err e) = Err e
 
 -- A RECORD of a file: what its reading answers,
-pub found-answer : (s : List ℕ) (k : Kind) (v : Finding) → (read_found s k v).answer ≡ answer_of v
-found-answer s k Fine = refl
-found-answer s k (Broken b) = refl
+pub found-answer : (s : List ℕ) (k : Kind) (v : Finding) → answer_read (read_found s k v) ≡ answer_of v
+found-answer s k (Ok u) = refl
+found-answer s k (Err b) = refl
 
 module _ (s : List ℕ) (k : Kind) (n : ℕ) where
-  pub answer-none : n ≡ 0 → Refused NoSuchRecord66 0 ≡ (read_in s k n).answer
+  -- where it is not there,
+  pub answer-absent : (eqb n 0 || ltb (count_of s k) n) ≡ true → refused NoSuchRecord66 0 ≡ answer_read (read_in s k n)
   unfolding read_in
-  answer-none e = rw (eq-eqb n 0 e)
+  answer-absent h = rw h
 
-  pub answer-past : count_of s k < n → Refused NoSuchRecord66 0 ≡ (read_in s k n).answer
+  -- and where it is,
+  pub answer-there :
+      (eqb n 0 || ltb (count_of s k) n) ≡ false → {r : List ℕ} {v : Finding} {a : Answer} → r ≡ record_of s k (n - 1) → v ≡ record_finding r k n → a ≡ answer_of v
+      → a ≡ answer_read (read_in s k n)
   unfolding read_in
-  answer-past h = rw (ne_eqb n 0 (λ e. omega arith), lt-ltb (count_of s k) n h)
-
-  pub answer-there : (n ≡ 0 → ⊥) → n ≤ count_of s k → {r : List ℕ} {v : Finding} {a : Answer} → r ≡ record_of s k (n - 1) → v ≡ record_finding r k n → a ≡ answer_of v
-      → a ≡ (read_in s k n).answer
-  unfolding read_in
-  answer-there z h {r} {v} p q e = e ∙ sym (found-answer r k v) ∙ rw (ne_eqb n 0 z, le-ltb (count_of s k) n h, q, p)
+  answer-there h {r} {v} p q e = e ∙ sym (found-answer r k v) ∙ rw (h, q, p)
 
   -- and what is read, by the answer
   by_answer :
-      (b : Bool) (v : Finding) (r : List ℕ) {reason : Reason} {field : ℕ} → let reading = pick b (no_reading NoSuchRecord66 0) (read_found r k v) in
-      (reading.answer ≡ Refused reason field → no_reading reason field ≡ reading)
-      × (reading.answer ≡ Done → (b ≡ false) × (record { answer = Done; values = values_in r k } ≡ reading))
-  by_answer true v r = (λ e. ap₂ no_reading (sym (refused-reason e)) (sym (refused-field e)), λ e. absurd (never_done e))
-  by_answer false Fine r = (λ e. absurd (never_done (sym e)), λ e. (refl, refl))
-  by_answer false (Broken b) r = (λ e. ap₂ no_reading (sym (refused-reason e)) (sym (refused-field e)), λ e. absurd (never_done e))
+      (b : Bool) (v : Finding) (r : List ℕ) → let reading = pick b (no_reading NoSuchRecord66 0) (read_found r k v) in
+      ((e : Refusal) → answer_read reading ≡ Err e → Err e ≡ reading)
+      × (answer_read reading ≡ Ok tt → (b ≡ false) × (Ok (values_in r k) ≡ reading))
+  by_answer true v r = (λ o e. ap to_reading (sym e), λ e. absurd (never_done e))
+  by_answer false (Ok u) r = (λ o e. absurd (never_done (sym e)), λ e. (refl, refl))
+  by_answer false (Err b) r = (λ o e. ap to_reading (sym e), λ e. absurd (never_done e))
 
-  pub read-refused : {reason : Reason} {field : ℕ} → (read_in s k n).answer ≡ Refused reason field → no_reading reason field ≡ read_in s k n
+  pub read-refused : {e : Refusal} → answer_read (read_in s k n) ≡ Err e → Err e ≡ read_in s k n
   unfolding read_in
-  read-refused e = (by_answer (eqb n 0 || ltb (count_of s k) n) (record_finding (record_of s k (n - 1)) k n) (record_of s k (n - 1))).0 e
+  read-refused {e} h = (by_answer (eqb n 0 || ltb (count_of s k) n) (record_finding (record_of s k (n - 1)) k n) (record_of s k (n - 1))).0 e h
 
-  pub read_done : (read_in s k n).answer ≡ Done → (n ≡ 0 → ⊥) × (record { answer = Done; values = values_in (record_of s k (n - 1)) k } ≡ read_in s k n)
+  pub read_done : answer_read (read_in s k n) ≡ Ok tt → (n ≡ 0 → ⊥) × (Ok (values_in (record_of s k (n - 1)) k) ≡ read_in s k n)
   unfolding read_in
   read_done e =
-      let d = (by_answer (eqb n 0 || ltb (count_of s k) n) (record_finding (record_of s k (n - 1)) k n) (record_of s k (n - 1)) {reason = NoSuchRecord66} {field = 0}).1 e in
+      let d = (by_answer (eqb n 0 || ltb (count_of s k) n) (record_finding (record_of s k (n - 1)) k n) (record_of s k (n - 1))).1 e in
       (eqb-false n 0 (neither (eqb n 0) (ltb (count_of s k) n) d.0).0, d.1)

@@ -24,23 +24,21 @@ use Rattle.field.proofs.TextLaws.{padded-empty}
 use Rattle.record.specs.declared.kind.Kind.{Kind}
 use Rattle.record.specs.declared.kind.Form.{Form}
 use Rattle.record.specs.declared.kind.Form.TheVariants.{Words, Code, Sign, Number, Size}
-use Rattle.record.specs.declared.kind.Which.{Which}
-use Rattle.record.specs.declared.kind.Which.TheVariants.{NoFile, File}
+use Rattle.record.specs.Table.{Which}
+use Rattle.std.specs.Prelude.{None, Some}
 use Rattle.record.specs.declared.reason.Reason.TheVariants.{NoFile60, ShortRoom61}
-use Rattle.record.specs.declared.reason.Finding.{Finding}
+use Rattle.record.specs.Breaks.{Finding}
 use Rattle.record.specs.Table.{col_at, form_at, width_at, offset_at, fields_of, length_of, which_of}
 use Rattle.record.specs.Says.{Said, missing, number, text, coordinate}
 use Rattle.record.proofs.SaysLaws.{Among, texts}
 use Rattle.record.proofs.TableLaws.{within}
 use Rattle.codec.specs.declared.values.Value.{Value}
 use Rattle.codec.specs.declared.values.Values.{Values}
-use Rattle.codec.specs.declared.values.Answer.{Answer}
-use Rattle.codec.specs.declared.values.Answer.TheVariants.{Refused}
 use Rattle.codec.specs.Values.{text_by, said_by, value_at, values_say}
 use Rattle.codec.specs.machinery.Held.{value_by, text_held, held_at, say_by, SaySame, held_length}
 use Rattle.codec.specs.Writes.{number_bytes, text_bytes, bytes_as, field_bytes, ending, joined, fields_bytes, encode}
 use Rattle.codec.specs.Refusals.{values_finding}
-use Rattle.codec.specs.Calls.{Writes, answer_of, answer_in, room_after}
+use Rattle.codec.specs.Calls.{Answer, refused, Writes, answer_of, answer_in, room_after}
 use Rattle.codec.proofs.JoinLaws.{sign-next, offset-one, offset-after, offset-last, row_one, joined-next, joined_end, ending-bar, ending-last}
 use Rattle.codec.proofs.InFields.{heard}
 use Rattle.codec.proofs.In.{encode_same, finding-same}
@@ -246,14 +244,14 @@ module _ (k : Kind) (said : ℕ → Said) (v : Values) (same : SaySame k said (v
   everywhere zero l = nothing
   everywhere (suc f) l = same (suc f) (omega arith) l
 
-  pub answer-short : length room < n → Refused ShortRoom61 0 ≡ answer_in k v (length room)
+  pub answer-short : length room < n → refused ShortRoom61 0 ≡ answer_in k v (length room)
   unfolding answer_in
   answer-short l = rw (← e, lt-ltb (length room) n l)
 
   module _ (l : n ≤ length room) where
-    pub answer-found : (x y : Finding) → x ≡ y → x ≡ values_finding k said → answer_of y ≡ answer_in k v (length room)
+    pub answer-found : (x : Finding) → x ≡ values_finding k said → answer_of x ≡ answer_in k v (length room)
     unfolding answer_in
-    answer-found x y q h = rw (← e, le-ltb (length room) n l, ← finding-same k said (values_say k v) everywhere, ← h, q)
+    answer-found x h = rw (← e, le-ltb (length room) n l, ← finding-same k said (values_say k v) everywhere, ← h)
 
     pub room-put : (xs : List ℕ) → xs ≡ encode k said → xs ++ drop n room ≡ encode k (values_say k v) ++ drop (length_of k) room
     room-put xs ex = ap₂ (λ (s : List ℕ) (m : ℕ). s ++ drop m room) (ex ∙ encode_same k said (values_say k v) everywhere) e
@@ -265,9 +263,9 @@ held-nothing k n z l t = refl
 
 -- the file
 module _ (file : ℕ) (v : Values) (room : List ℕ) (w : Which) (e : w ≡ which_of file) where
-  pub writes-none : w ≡ NoFile → Writes file v room (Refused NoFile60 0) room
+  pub writes-none : w ≡ None → Writes file v room (refused NoFile60 0) room
   writes-none h = record { says = rw (← e, h); leaves = rw (← e, h) }
 
-  pub writes-file : (k : Kind) (a : Answer) (after : List ℕ) → w ≡ File k → (a ≡ answer_in k v (length room)) × (after ≡ room_after k v room a)
+  pub writes-file : (k : Kind) (a : Answer) (after : List ℕ) → w ≡ Some k → (a ≡ answer_in k v (length room)) × (after ≡ room_after k v room a)
       → Writes file v room a after
   writes-file k a after h p = record { says = rw (← e, h) p.0; leaves = rw (← e, h) p.1 }

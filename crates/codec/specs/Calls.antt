@@ -4,36 +4,56 @@
 use Rattle.std.specs.Prelude.{ℕ, ◌-◌, ◌||◌, List, ◌++◌, ◌≡◌, ltb, eqb, length, drop, replicate}
 use Rattle.laws.specs.Row.{pick}
 use Rattle.record.specs.declared.kind.Kind.{Kind}
-use Rattle.record.specs.declared.kind.Which.{Which}
-use Rattle.record.specs.declared.kind.Which.TheVariants.{NoFile, File}
+use Rattle.record.specs.Table.{Which}
+use Rattle.std.specs.Prelude.{Result, Ok, Err, None, Some}
 use Rattle.record.specs.declared.reason.Reason.{Reason}
 use Rattle.record.specs.declared.reason.Reason.TheVariants.{NoFile60, ShortRoom61, NoSuchRecord66}
-use Rattle.record.specs.declared.reason.Finding.{Finding}
-use Rattle.record.specs.declared.reason.Finding.TheVariants.{Fine, Broken}
+use Rattle.record.specs.Breaks.{Finding}
 use Rattle.record.specs.Table.{length_of, which_of, most_fields}
 use Rattle.record.specs.Cut.{count_of, record_of}
 use Rattle.record.specs.Breaks.{record_finding}
+use Rattle.record.specs.declared.reason.Break.{Break}
 use Rattle.codec.specs.declared.values.Values.{Values}
-use Rattle.codec.specs.declared.values.Answer.{Answer}
-use Rattle.codec.specs.declared.values.Answer.TheVariants.{Done, Refused}
-use Rattle.codec.specs.declared.values.Reading.{Reading}
+use Rattle.codec.specs.declared.values.Refusal.{Refusal}
 use Rattle.codec.specs.Values.{no_value, values_say, values_in}
 use Rattle.codec.specs.Writes.{encode}
 use Rattle.codec.specs.Refusals.{values_finding}
 
--- a finding, as an answer: its reason and field
-abbrev pub answer_of : Finding → Answer
-answer_of Fine = Done
-answer_of (Broken b) = Refused b.reason b.field
+-- an answer, and a refusal by its reason and field
+abbrev pub Answer : Type 0
+Answer = Result (Unit {0}) Refusal
 
--- a refusal gives no values
+abbrev pub refused : Reason → ℕ → Answer
+refused reason field = Err (record { reason = reason; field = field })
+
+-- a reading: the values, or a refusal, which gives none
+abbrev pub Reading : Type 0
+Reading = Result Values Refusal
+
+abbrev pub answer_read : Reading → Answer
+answer_read (Ok v) = Ok tt
+answer_read (Err r) = Err r
+
+abbrev pub values_read : Reading → Values
+values_read (Ok v) = v
+values_read (Err r) = record { at = replicate most_fields no_value }
+
+-- a break, as a refusal: its reason and field
+abbrev pub refusal_of : Break → Refusal
+refusal_of b = record { reason = b.reason; field = b.field }
+
+-- a finding, as an answer
+abbrev pub answer_of : Finding → Answer
+answer_of (Ok u) = Ok tt
+answer_of (Err b) = Err (refusal_of b)
+
 abbrev pub no_reading : Reason → ℕ → Reading
-no_reading reason field = record { answer = Refused reason field; values = record { at = replicate most_fields no_value } }
+no_reading reason field = Err (record { reason = reason; field = field })
 
 -- of a record's bytes with what is found in them
 abbrev pub read_found : List ℕ → Kind → Finding → Reading
-read_found s k Fine = record { answer = Done; values = values_in s k }
-read_found s k (Broken b) = no_reading b.reason b.field
+read_found s k (Ok u) = Ok (values_in s k)
+read_found s k (Err b) = Err (refusal_of b)
 
 -- record n, counted from 1, of a file's bytes
 unfoldable pub read_in : List ℕ → Kind → ℕ → Reading
@@ -42,8 +62,8 @@ read_in s k n =
     (read_found (record_of s k (n - 1)) k (record_finding (record_of s k (n - 1)) k n))
 
 abbrev pub read_as : Which → List ℕ → ℕ → Reading
-read_as NoFile s n = no_reading NoFile60 0
-read_as (File k) s n = read_in s k n
+read_as None s n = no_reading NoFile60 0
+read_as (Some k) s n = read_in s k n
 
 -- READING: file number, the file's bytes, record number
 unfoldable pub read_of : ℕ → List ℕ → ℕ → Reading
@@ -51,20 +71,20 @@ read_of file s n = read_as (which_of file) s n
 
 -- a record of the kind into a room of so many bytes
 unfoldable pub answer_in : Kind → Values → ℕ → Answer
-answer_in k v room = pick (ltb room (length_of k)) (Refused ShortRoom61 0) (answer_of (values_finding k (values_say k v)))
+answer_in k v room = pick (ltb room (length_of k)) (refused ShortRoom61 0) (answer_of (values_finding k (values_say k v)))
 
 -- what the room holds after the answer
 abbrev pub room_after : Kind → Values → List ℕ → Answer → List ℕ
-room_after k v room Done = encode k (values_say k v) ++ drop (length_of k) room
-room_after k v room (Refused reason field) = room
+room_after k v room (Ok u) = encode k (values_say k v) ++ drop (length_of k) room
+room_after k v room (Err r) = room
 
 abbrev pub answer_as : Which → Values → ℕ → Answer
-answer_as NoFile v room = Refused NoFile60 0
-answer_as (File k) v room = answer_in k v room
+answer_as None v room = refused NoFile60 0
+answer_as (Some k) v room = answer_in k v room
 
 abbrev pub room_as : Which → Values → List ℕ → Answer → List ℕ
-room_as NoFile v room a = room
-room_as (File k) v room a = room_after k v room a
+room_as None v room a = room
+room_as (Some k) v room a = room_after k v room a
 
 -- WRITING: file number, values, and the room before and after: a refusal leaves every byte, success writes the record's bytes at
 -- its start and touches no other

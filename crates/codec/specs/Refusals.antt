@@ -14,7 +14,7 @@ use Rattle.record.specs.declared.kind.Domain.{Domain}
 use Rattle.record.specs.declared.reason.Reason.{Reason}
 use Rattle.record.specs.declared.reason.Reason.TheVariants.{TooLarge62, BadText63, Missing64, Outside65}
 use Rattle.record.specs.declared.reason.Break.{Break}
-use Rattle.record.specs.declared.reason.Finding.{Finding}
+use Rattle.record.specs.Breaks.{Finding}
 use Rattle.record.specs.Table.{form_at, width_at, must_at, back_at, ahead_at, domain_at, fields_of, required}
 use Rattle.record.specs.Rules.{word_within, number_within}
 use Rattle.record.specs.Breaks.{at_place, finding_of}

@@ -1,7 +1,7 @@
 // One record of any of the eight files, read as values and written from values.
 #![tactic(auto)]
 
-mod held;
+pub mod held;
 pub mod read;
 mod refuse;
 pub mod values;

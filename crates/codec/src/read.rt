@@ -6,17 +6,17 @@ ghost use Rattle.record.specs.Table.{most_fields};
 ghost use Rattle.record.specs.Cut.{text_of};
 ghost use Rattle.record.specs.Says.{said_as, said_in};
 ghost use Rattle.codec.specs.Values.{value_of, values_in};
-ghost use Rattle.codec.specs.Calls.{answer_of, no_reading, read_in, read_of};
+ghost use Rattle.codec.specs.Calls.{answer_read, read_in, read_of};
 ghost use Rattle.codec.specs.machinery.Held.{held_length, words_length, words_of};
 
-use crate::values::{Answer, Reading, Value, Values, missing_value};
+use crate::values::{Refusal, Value, Values, missing_value};
 use field::class::Class;
 use field::number::{get_coordinate, number_in};
 use field::words::{put_text, trimmed_len};
 use record::check::check_record;
 use record::cut::{field, record_bytes, records};
-use record::kind::{Form, Kind, MOST_FIELDS, WIDEST, Which, kind_of};
-use record::reason::{Finding, Reason};
+use record::kind::{Form, Kind, MOST_FIELDS, WIDEST, kind_of};
+use record::reason::Reason;
 
 // A FIELD of the form, by its bytes t and those of the field before it: its value, part by part, so that each can be put where it will stay.
 // Nothing is looked at twice: the number of a field of blanks is 0, which is also what a missing one has.
@@ -100,69 +100,43 @@ fn values_in(rec: &[u8], k: Kind) -> Values
     ensures { result ≡ values_in rec.now k }
 {
     let mut at = [missing_value(); MOST_FIELDS];
-    let mut i = 0;
-    while i < MOST_FIELDS {
+    for i in 0..MOST_FIELDS {
         at[i] = value_in(rec, k, i);
-        i += 1;
     }
     Values { at }
 }
 
-fn no_reading(reason: Reason, field: usize) -> Reading
-    ensures { result ≡ no_reading reason field }
-{
-    let answer = Answer::Refused(reason, field);
-    let values = Values {
-        at: [missing_value(); MOST_FIELDS],
-    };
-    Reading { answer, values }
-}
-
-fn answer_of(v: Finding) -> Answer
-    ensures { result ≡ answer_of v }
-{
-    match v {
-        Finding::Fine => Answer::Done,
-        Finding::Broken(b) => {
-            let reason = b.reason;
-            Answer::Refused(reason, b.field)
-        }
-    }
-}
-
 // What the reading of one record, counted from 1, of a file's bytes answers.
-pub fn answer_in(bytes: &[u8], k: Kind, n: usize) -> Answer
-    ensures { result ≡ (read_in bytes.now k n).answer }
+pub fn answer_in(bytes: &[u8], k: Kind, n: usize) -> Result<(), Refusal>
+    ensures { result ≡ answer_read (read_in bytes.now k n) }
 {
-    if n == 0 {
-        return Answer::Refused(Reason::NoSuchRecord66, 0);
+    if (n == 0) | (records(bytes, k) < n) {
+        return Err(Refusal {
+            reason: Reason::NoSuchRecord66,
+            field: 0,
+        });
     }
-    if records(bytes, k) < n {
-        return Answer::Refused(Reason::NoSuchRecord66, 0);
-    }
-    answer_of(check_record(record_bytes(bytes, k, n - 1), k, n))
+    check_record(record_bytes(bytes, k, n - 1), k, n)?;
+    Ok(())
 }
 
 // Reads one record, counted from 1, of a file's bytes.
-fn read_in(bytes: &[u8], k: Kind, n: usize) -> Reading
+fn read_in(bytes: &[u8], k: Kind, n: usize) -> Result<Values, Refusal>
     ensures { result ≡ read_in bytes.now k n }
 {
-    match answer_in(bytes, k, n) {
-        Answer::Refused(reason, field) => no_reading(reason, field),
-        Answer::Done => {
-            let values = values_in(record_bytes(bytes, k, n - 1), k);
-            let answer = Answer::Done;
-            Reading { answer, values }
-        }
-    }
+    answer_in(bytes, k, n)?;
+    Ok(values_in(record_bytes(bytes, k, n - 1), k))
 }
 
 // Reads one record, counted from 1, of the bytes of the file with the number.
-pub fn read(file: usize, bytes: &[u8], n: usize) -> Reading
+pub fn read(file: usize, bytes: &[u8], n: usize) -> Result<Values, Refusal>
     ensures { result ≡ read_of file bytes.now n }
 {
     match kind_of(file) {
-        Which::NoFile => no_reading(Reason::NoFile60, 0),
-        Which::File(k) => read_in(bytes, k, n),
+        None => Err(Refusal {
+            reason: Reason::NoFile60,
+            field: 0,
+        }),
+        Some(k) => read_in(bytes, k, n),
     }
 }

@@ -7,16 +7,16 @@ ghost use Rattle.record.specs.Table.{required, must_at};
 ghost use Rattle.record.specs.Breaks.{finding_of, at_place};
 ghost use Rattle.codec.specs.Values.{text_by};
 ghost use Rattle.codec.specs.Refusals.{bad_text, bad_said, blank_at, partners_missing, outside_said, sixties, sixty_reasons, values_finding};
-ghost use Rattle.codec.specs.machinery.Held.{value_by, held_at, say_by};
+ghost use Rattle.codec.specs.machinery.Held.{value_by, held_at, held, say_by};
 
-use crate::held::{coordinate_at, length_at, minus, number_at, text_at};
+use crate::held::{Held, held_in};
 use field::class::Class;
 use field::number::{has_digits, magnitude};
 use field::words::{edged_by, not_given};
 use record::check::{break_of, first_true};
 use record::cut::part;
 use record::kind::{Domain, Form, Kind};
-use record::reason::{Finding, Reason};
+use record::reason::{Break, Reason};
 
 // Whether the first len bytes are no text of w bytes. Past the end of the slice bytes count as 0, which is no text's.
 fn bad_text(w: usize, text: &[u8], len: usize) -> bool
@@ -59,8 +59,8 @@ fn blank_at(k: Kind, lengths: &[usize], f: usize) -> bool
     ensures { (n : List ℕ) (z : List ℤ) (t : List ℕ) → result ≡ blank_at k (say_by k (held_at n z lengths.now t)) f }
 {
     match k.form(f) {
-        Form::Sign => length_at(lengths, f + 1) == 0,
-        _ => length_at(lengths, f) == 0,
+        Form::Sign => held_in(lengths, f + 1, 0) == 0,
+        _ => held_in(lengths, f, 0) == 0,
     }
 }
 
@@ -69,13 +69,10 @@ fn partners_missing(k: Kind, lengths: &[usize], f: usize) -> bool
     requires { f < 256 - 100 }
     ensures { (n : List ℕ) (z : List ℤ) (t : List ℕ) → result ≡ partners_missing k (say_by k (held_at n z lengths.now t)) f }
 {
-    let from = minus(f, k.back(f));
+    let from = f.saturating_sub(k.back(f));
     let n = k.back(f) + k.ahead(f) + 1;
-    let mut j = 0;
-    while j < n {
-        if blank_at(k, lengths, from + j) {
-            j += 1;
-        } else {
+    for j in 0..n {
+        if !blank_at(k, lengths, from + j) {
             return false;
         }
     }
@@ -96,36 +93,29 @@ fn lacking(k: Kind, lengths: &[usize], f: usize, gone: bool) -> bool
 
 // The tests of reasons 62 to 65 of a field, by its form: a coordinate is too large at its number and missing at its sign, a CODIGO is
 // missing also as NA and ND.
-fn tests(
-    k: Kind,
-    numbers: &[u64],
-    coordinates: &[i64],
-    lengths: &[usize],
-    texts: &[u8],
-    f: usize,
-) -> [bool; 4]
+fn tests(k: Kind, h: &Held<'_>, f: usize) -> [bool; 4]
     requires { f < 256 - 100 }
-    ensures { result ≡ sixties k (say_by k (held_at numbers.now coordinates.now lengths.now texts.now)) f }
+    ensures { result ≡ sixties k (say_by k (held h.now)) f }
 {
     let form = k.form(f);
     match form {
         Form::Sign => {
-            let next = length_at(lengths, f + 1);
-            [false, false, lacking(k, lengths, f, next == 0), false]
+            let next = h.length(f + 1);
+            [false, false, lacking(k, h.lengths, f, next == 0), false]
         }
         Form::Number => {
-            let len = length_at(lengths, f);
-            let number = number_at(numbers, f);
+            let len = h.length(f);
+            let number = h.number(f);
             [
                 (len != 0) & !has_digits(number, k.width(f)),
                 false,
-                lacking(k, lengths, f, len == 0),
+                lacking(k, h.lengths, f, len == 0),
                 (len != 0) & !k.domain(f).has_number(number),
             ]
         }
         Form::Size => {
-            let len = length_at(lengths, f);
-            let size = magnitude(coordinate_at(coordinates, f));
+            let len = h.length(f);
+            let size = magnitude(h.coordinate(f));
             [
                 (len != 0) & !has_digits(size, k.width(f)),
                 false,
@@ -134,13 +124,13 @@ fn tests(
             ]
         }
         _ => {
-            let len = length_at(lengths, f);
-            let text = text_at(texts, f);
+            let len = h.length(f);
+            let text = h.text(f);
             let gone = (len == 0) | (form.is_code() & not_given(text, len));
             [
                 false,
                 bad_words(k.width(f), text, len),
-                lacking(k, lengths, f, gone),
+                lacking(k, h.lengths, f, gone),
                 unfit_words(k.domain(f), text, len),
             ]
         }
@@ -159,45 +149,25 @@ fn sixty_reason(j: usize) -> Reason
     }
 }
 
-fn check_value(
-    k: Kind,
-    numbers: &[u64],
-    coordinates: &[i64],
-    lengths: &[usize],
-    texts: &[u8],
-    f: usize,
-) -> Finding
+fn check_value(k: Kind, h: &Held<'_>, f: usize) -> Result<(), Break>
     requires { f < 256 - 100 }
-    ensures { result ≡ finding_of (run (at_place (sixties k (say_by k (held_at numbers.now coordinates.now lengths.now texts.now)) f) sixty_reasons k 0 f)) }
+    ensures { result ≡ finding_of (run (at_place (sixties k (say_by k (held h.now)) f) sixty_reasons k 0 f)) }
 {
-    let tests = tests(k, numbers, coordinates, lengths, texts, f);
+    let tests = tests(k, h, f);
     let j = first_true(&tests);
     if j < 4 {
-        Finding::Broken(break_of(sixty_reason(j), k, 0, f))
+        Err(break_of(sixty_reason(j), k, 0, f))
     } else {
-        Finding::Fine
+        Ok(())
     }
 }
 
 // The first refusal by field and reason.
-pub(crate) fn check_values(
-    k: Kind,
-    numbers: &[u64],
-    coordinates: &[i64],
-    lengths: &[usize],
-    texts: &[u8],
-) -> Finding
-    ensures { result ≡ values_finding k (say_by k (held_at numbers.now coordinates.now lengths.now texts.now)) }
+pub(crate) fn check_values(k: Kind, h: &Held<'_>) -> Result<(), Break>
+    ensures { result ≡ values_finding k (say_by k (held h.now)) }
 {
-    let n = k.fields() + 1;
-    let mut f = 0;
-    while f < n {
-        let found = check_value(k, numbers, coordinates, lengths, texts, f);
-        if found.is_fine() {
-            f += 1;
-        } else {
-            return found;
-        }
+    for f in 0..k.fields() + 1 {
+        check_value(k, h, f)?;
     }
-    Finding::Fine
+    Ok(())
 }

@@ -2,10 +2,11 @@
 ghost use Rattle.std.specs.Prelude.{◌≡◌, List, ℕ, ◌<◌, ◌≤◌, length};
 ghost use Rattle.record.specs.Says.{number, coordinate};
 ghost use Rattle.codec.specs.Values.{no_value, value_of, text_value, value_at};
+ghost use Rattle.codec.specs.Calls.{refusal_of};
 
 use field::words::put_text;
 use record::kind::{MOST_FIELDS, WIDEST};
-use record::reason::Reason;
+use record::reason::{Break, Reason};
 
 // One field's value. Of a number, given and number count; of a coordinate (at the number's field), given and coordinate; of a
 // text, len and the first len bytes of text. A text of no bytes is missing, and so is what isn't given.
@@ -24,19 +25,23 @@ pub struct Values {
     pub at: [Value; MOST_FIELDS],
 }
 
-// The answer of a call on one record.
+// Why a call on one record is refused: a reason and a field.
 #[derive(Clone, Copy)]
-pub enum Answer {
-    Done,
-    // A reason and a field.
-    Refused(Reason, usize),
+pub struct Refusal {
+    pub reason: Reason,
+    pub field: usize,
 }
 
-// The answer of a reading, and the values where it is Done; missing ones else.
-#[derive(Clone, Copy)]
-pub struct Reading {
-    pub answer: Answer,
-    pub values: Values,
+// The record's number is known to the caller, and so is the file's.
+impl From<Break> for Refusal {
+    ghost from_gives = { λ b r. r ≡ refusal_of b };
+
+    fn from(b: Break) -> Refusal {
+        Refusal {
+            reason: b.reason,
+            field: b.field,
+        }
+    }
 }
 
 pub fn missing_value() -> Value

@@ -8,15 +8,15 @@ ghost use Rattle.record.specs.Says.{missing};
 ghost use Rattle.codec.specs.Values.{said_by, values_say};
 ghost use Rattle.codec.specs.Writes.{bytes_as, field_bytes, encode};
 ghost use Rattle.codec.specs.Calls.{Writes, answer_in, room_after};
-ghost use Rattle.codec.specs.machinery.Held.{value_by, held_at, say_by, held_length, SaySame};
+ghost use Rattle.codec.specs.machinery.Held.{value_by, held_at, held, say_by, held_length, SaySame};
 
-use crate::held::{coordinate_at, length_at, number_at, text_at};
+use crate::held::Held;
 use crate::refuse::check_values;
-use crate::values::{Answer, Value, Values};
+use crate::values::{Refusal, Value, Values};
 use field::number::{magnitude, put_number, sign_byte};
 use field::words::put_text;
-use record::kind::{Form, Kind, MOST_FIELDS, WIDEST, Which, kind_of};
-use record::reason::{Finding, Reason};
+use record::kind::{Form, Kind, MOST_FIELDS, WIDEST, kind_of};
+use record::reason::Reason;
 
 // The texts of all fields, one after another.
 const TEXTS: usize = MOST_FIELDS * WIDEST;
@@ -52,31 +52,15 @@ fn put_digits(part: &mut [u8], len: usize, n: u64)
 }
 
 // Fills the part with field f, which has the form.
-fn put_field(
-    part: &mut [u8],
-    form: Form,
-    numbers: &[u64],
-    coordinates: &[i64],
-    lengths: &[usize],
-    texts: &[u8],
-    f: usize,
-)
+fn put_field(part: &mut [u8], form: Form, h: &Held<'_>, f: usize)
     requires { f < 256 }
-    ensures { part.new ≡ bytes_as form (length part.old) (said_by form (held_at numbers.now coordinates.now lengths.now texts.now f)) (said_by Form.Size (held_at numbers.now coordinates.now lengths.now texts.now (f + 1))) }
+    ensures { part.new ≡ bytes_as form (length part.old) (said_by form (held h.now f)) (said_by Form.Size (held h.now (f + 1))) }
 {
     match form {
-        Form::Sign => put_sign(
-            part,
-            length_at(lengths, f + 1),
-            coordinate_at(coordinates, f + 1),
-        ),
-        Form::Number => put_digits(part, length_at(lengths, f), number_at(numbers, f)),
-        Form::Size => put_digits(
-            part,
-            length_at(lengths, f),
-            magnitude(coordinate_at(coordinates, f)),
-        ),
-        _ => put_text(part, text_at(texts, f), length_at(lengths, f)),
+        Form::Sign => put_sign(part, h.length(f + 1), h.coordinate(f + 1)),
+        Form::Number => put_digits(part, h.length(f), h.number(f)),
+        Form::Size => put_digits(part, h.length(f), magnitude(h.coordinate(f))),
+        _ => put_text(part, h.text(f), h.length(f)),
     }
 }
 
@@ -87,97 +71,56 @@ fn end_byte(last: bool) -> u8
 }
 
 // Writes field f and the byte after it at its place: those before stay.
-fn put_next(
-    buf: &mut [u8],
-    at: usize,
-    k: Kind,
-    numbers: &[u64],
-    coordinates: &[i64],
-    lengths: &[usize],
-    texts: &[u8],
-    f: usize,
-) -> usize
+fn put_next(buf: &mut [u8], at: usize, k: Kind, h: &Held<'_>, f: usize) -> usize
     requires { (f < 256) × (at + width_at k f < length buf.old) }
-    ensures { (result ≡ at + width_at k f + 1) × (take result buf.new ≡ take at buf.old ++ (field_bytes k (say_by k (held_at numbers.now coordinates.now lengths.now texts.now)) f ++ (pick (eqb f (fields_of k)) 13 124 ∷ []))) }
+    ensures { (result ≡ at + width_at k f + 1) × (take result buf.new ≡ take at buf.old ++ (field_bytes k (say_by k (held h.now)) f ++ (pick (eqb f (fields_of k)) 13 124 ∷ []))) }
 {
     let next = at + k.width(f);
-    put_field(
-        &mut buf[at..next],
-        k.form(f),
-        numbers,
-        coordinates,
-        lengths,
-        texts,
-        f,
-    );
+    put_field(&mut buf[at..next], k.form(f), h, f);
     buf[next] = end_byte(f == k.fields());
     next + 1
 }
 
 // Fills the part, which has the record's length, with the record's bytes.
-fn put_record(
-    buf: &mut [u8],
-    k: Kind,
-    numbers: &[u64],
-    coordinates: &[i64],
-    lengths: &[usize],
-    texts: &[u8],
-)
+fn put_record(buf: &mut [u8], k: Kind, h: &Held<'_>)
     requires { length buf.old ≡ length_of k }
-    ensures { buf.new ≡ encode k (say_by k (held_at numbers.now coordinates.now lengths.now texts.now)) }
+    ensures { buf.new ≡ encode k (say_by k (held h.now)) }
 {
     let n = k.fields();
     let mut at = 0;
-    let mut f = 0;
-    while f < n {
-        at = put_next(buf, at, k, numbers, coordinates, lengths, texts, f + 1);
-        f += 1;
+    for f in 0..n {
+        at = put_next(buf, at, k, h, f + 1);
     }
     buf[at] = 10;
 }
 
 // Writes one record of the kind at the start of the room: once all fields are judged, each byte where it will stay.
-fn write_in(
-    k: Kind,
-    numbers: &[u64],
-    coordinates: &[i64],
-    lengths: &[usize],
-    texts: &[u8],
-    room: &mut [u8],
-) -> Answer
-    ensures { (v : Values) → SaySame k (say_by k (held_at numbers.now coordinates.now lengths.now texts.now)) (values_say k v) → (result ≡ answer_in k v (length room.old)) × (room.new ≡ room_after k v room.old result) }
+fn write_in(k: Kind, h: &Held<'_>, room: &mut [u8]) -> Result<(), Refusal>
+    ensures { (v : Values) → SaySame k (say_by k (held h.now)) (values_say k v) → (result ≡ answer_in k v (length room.old)) × (room.new ≡ room_after k v room.old result) }
 {
     let n = k.length();
     if room.len() < n {
-        return Answer::Refused(Reason::ShortRoom61, 0);
+        return Err(Refusal {
+            reason: Reason::ShortRoom61,
+            field: 0,
+        });
     }
-    match check_values(k, numbers, coordinates, lengths, texts) {
-        Finding::Broken(b) => {
-            let reason = b.reason;
-            Answer::Refused(reason, b.field)
-        }
-        Finding::Fine => {
-            put_record(&mut room[..n], k, numbers, coordinates, lengths, texts);
-            Answer::Done
-        }
-    }
+    check_values(k, h)?;
+    put_record(&mut room[..n], k, h);
+    Ok(())
 }
 
 // Writes one record of the file with the number from what the arrays hold, or refuses and leaves the room as it is: what `write` does with
 // values that say the same.
-pub fn write_held(
-    file: usize,
-    numbers: &[u64],
-    coordinates: &[i64],
-    lengths: &[usize],
-    texts: &[u8],
-    room: &mut [u8],
-) -> Answer
-    ensures { (v : Values) → ((k : Kind) → which_of file ≡ Which.File k → SaySame k (say_by k (held_at numbers.now coordinates.now lengths.now texts.now)) (values_say k v)) → Writes file v room.old result room.new }
+pub fn write_held(file: usize, h: &Held<'_>, room: &mut [u8]) -> Result<(), Refusal>
+    ensures { (v : Values) → ((k : Kind) → which_of file ≡ Some k → SaySame k (say_by k (held h.now)) (values_say k v)) → Writes file v room.old result room.new }
 {
     match kind_of(file) {
-        Which::NoFile => Answer::Refused(Reason::NoFile60, 0),
-        Which::File(k) => write_in(k, numbers, coordinates, lengths, texts, room),
+        None => Err(Refusal {
+            reason: Reason::NoFile60,
+            field: 0,
+        }),
+        Some(k) => write_in(k, h, room),
     }
 }
 
@@ -204,8 +147,7 @@ fn hold(
     requires { (length numbers.old ≡ most_fields) × (length coordinates.old ≡ most_fields) × (length lengths.old ≡ most_fields) × (length texts.old ≡ most_fields * widest) }
     ensures { SaySame k (say_by k (held_at numbers.new coordinates.new lengths.new texts.new)) (values_say k v) }
 {
-    let mut i = 0;
-    while i < MOST_FIELDS {
+    for i in 0..MOST_FIELDS {
         let f = i + 1;
         let x = v.get(f);
         let number = x.number;
@@ -217,12 +159,11 @@ fn hold(
         let from = WIDEST * i;
         let next = from + WIDEST;
         put_text(&mut texts[from..next], &text, WIDEST);
-        i += 1;
     }
 }
 
 // Writes one record of the kind from a struct of values.
-fn write_values(k: Kind, v: Values, room: &mut [u8]) -> Answer
+fn write_values(k: Kind, v: Values, room: &mut [u8]) -> Result<(), Refusal>
     ensures { (result ≡ answer_in k v (length room.old)) × (room.new ≡ room_after k v room.old result) }
 {
     let mut numbers = [0u64; MOST_FIELDS];
@@ -237,15 +178,24 @@ fn write_values(k: Kind, v: Values, room: &mut [u8]) -> Answer
         &mut lengths,
         &mut texts,
     );
-    write_in(k, &numbers, &coordinates, &lengths, &texts, room)
+    let h = Held {
+        numbers: &numbers,
+        coordinates: &coordinates,
+        lengths: &lengths,
+        texts: &texts,
+    };
+    write_in(k, &h, room)
 }
 
 // Writes one record of the file with the number at the start of the room, or refuses and leaves the room as it is.
-pub fn write(file: usize, v: Values, room: &mut [u8]) -> Answer
+pub fn write(file: usize, v: Values, room: &mut [u8]) -> Result<(), Refusal>
     ensures { Writes file v room.old result room.new }
 {
     match kind_of(file) {
-        Which::NoFile => Answer::Refused(Reason::NoFile60, 0),
-        Which::File(k) => write_values(k, v, room),
+        None => Err(Refusal {
+            reason: Reason::NoFile60,
+            field: 0,
+        }),
+        Some(k) => write_values(k, v, room),
     }
 }

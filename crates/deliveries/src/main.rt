@@ -27,32 +27,24 @@ fn length_at(s: &[u8], at: usize) -> Length
     ensures later { at < result.next }
     ensures near { result.next ≤ at + 8 }
 {
-    let mut n: usize = 0;
-    let mut i: usize = 0;
-    while i < 8 {
-        let b = field::class::byte(s, at + i);
-        if b < 48 {
-            return Length {
-                n,
-                next: at + i + 1,
-            };
+    let mut n = 0;
+    for i in 0..8 {
+        match field::class::byte(s, at + i) {
+            b @ b'0'..=b'9' => n = n * 10 + usize::from(b - b'0'),
+            _ => {
+                return Length {
+                    n,
+                    next: at + i + 1,
+                };
+            }
         }
-        if 57 < b {
-            return Length {
-                n,
-                next: at + i + 1,
-            };
-        }
-        n = n * 10 + (b - 48) as usize;
-        i += 1;
     }
-    Length { n, next: at + i }
+    Length { n, next: at + 8 }
 }
 
 fn say_verdict<'a, W: Write>(out: &mut W, files: [&'a [u8]; FILES]) -> io::Result<()> {
     let line = line_of(judge(files));
-    let bytes = line.bytes;
-    out.write_all(part(&bytes, 0, line.len))
+    out.write_all(part(&line.bytes, 0, line.len))
 }
 
 // The place after the lengths at a place.
@@ -62,11 +54,8 @@ fn after_lengths(s: &[u8], at: usize) -> usize
     ensures near { result ≤ at + 8 * file_count }
 {
     let mut next = at;
-    let mut n = 0;
-    while n < FILES {
-        let length = length_at(s, next);
-        next = length.next;
-        n += 1;
+    for _ in 0..FILES {
+        next = length_at(s, next).next;
     }
     next
 }
@@ -79,14 +68,11 @@ fn judge_at<W: Write>(out: &mut W, s: &[u8], at: usize) -> io::Result<usize>
     let mut from = after_lengths(s, at);
     let mut files = [s; FILES];
     let mut next = at;
-    let mut n = 0;
-    while n < FILES {
+    for n in 0..FILES {
         let length = length_at(s, next);
-        let len = length.n;
-        files[n] = part(s, from, len);
-        from += len;
+        files[n] = part(s, from, length.n);
+        from += length.n;
         next = length.next;
-        n += 1;
     }
     say_verdict(out, files)?;
     Ok(from)

@@ -1,5 +1,4 @@
 pub mod NumberLoops
-pub mod SignLaws
 pub mod TextLoops
 pub mod DigitLaws
 pub mod TextLaws

@@ -3,13 +3,13 @@
 use Prim.Native.Nat.{ℕ, zero, suc, ◌+◌, ◌-◌, ◌*◌, ◌/◌, ◌%◌, ◌^◌, ◌≤◌, ◌<◌, min}
 use mathlib.Core.Path.{◌≡◌, refl, ap, sym}
 use mathlib.Core.Bool.{true}
-use mathlib.Core.List.{List, [], ◌∷◌, ◌++◌, append_assoc, append-nil}
+use mathlib.Core.List.{List, [], ◌∷◌, ◌++◌, append_assoc}
 use native.Mathlib.Nat.{pow-suc, le_refl, not-suc-le-zero, pow-le-pow_right}
 use native.Mathlib.Numerals.{add-one, sub-one}
 use native.Mathlib.Omega.{arith}
 use lib.Dec.{lit<, ltb}
 use lib.ListN.{length, get_or, drop, set, length-set}
-use lib.Seq.{drop-length, drop-cons, drop-set-lt, get_or-set_same}
+use lib.Seq.{drop-cons, drop-set-lt, get_or-set_same}
 use borrow.Author.Tests.{lt-ltb}
 use Rattle.field.specs.Digits.{digits, digits_number, number_written}
 
@@ -22,9 +22,6 @@ below_power n w h g =
 -- WRITING: the invariant is `digits k left ++ drop k part ≡ digits w n`
 drop-set-same : (p : List ℕ) (j a : ℕ) → j < length p → drop j (set p j a) ≡ a ∷ drop (suc j) p
 drop-set-same p j a h = rw (drop-cons (set p j a) j 0 (rw length-set h), get_or-set_same p j a 0 h, drop-set-lt (suc j) p j a (le_refl (suc j)))
-
-pub digits-start : (n : ℕ) (p : List ℕ) → digits (length p) n ++ drop (length p) p ≡ digits (length p) n
-digits-start n p = rw (drop-length p, append-nil)
 
 -- one digit more, from the right
 pub digits-turn : (k n : ℕ) (p : List ℕ) → 0 < k → k ≤ length p

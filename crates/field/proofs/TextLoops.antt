@@ -1,17 +1,21 @@
 -- What the loops over texts do in a turn: a class byte by byte, a padded text byte by byte, trailing blanks, a text as one number.
 -- Assumes nothing.
-use Prim.Native.Nat.{ℕ, zero, suc, ◌+◌, ◌-◌, ◌*◌, ◌^◌, ◌≤◌, ◌<◌}
-use mathlib.Core.Path.{◌≡◌, refl, ap, sym, ◌∙◌}
+use Prim.Native.Nat.{ℕ, zero, suc, ◌+◌, ◌-◌, ◌*◌, ◌^◌, ◌≤◌, ◌<◌, min}
+use mathlib.Core.Path.{◌≡◌, refl, ap, ap₂, sym, ◌∙◌}
 use mathlib.Core.Bool.{Bool, true, false, ◌&&◌, ◌||◌, and_assoc, and-true}
-use mathlib.Core.List.{List, [], ◌∷◌, ◌++◌}
+use mathlib.Core.List.{List, [], ◌∷◌, ◌++◌, append_assoc, append-nil}
 use native.Mathlib.Nat.{pow-suc, not-suc-le-zero}
 use native.Mathlib.Numerals.{add-one, sub-one}
 use native.Mathlib.Decide.{dec_lt}
 use native.Mathlib.Omega.{arith}
 use lib.Dec.{ltb, eqb}
-use lib.ListN.{length, get_or, take, drop, set, drop_of_length-le, replicate, length-append, length-replicate, length-set, get_or-replicate, get_or-append, get_or-eq_default}
-use lib.Seq.{drop-cons, take-suc, take-suc-set, take_all, get_or-take, get_or-append-add, length-take-le}
+use lib.ListN.{length, get_or, take, drop, drop_of_length-le, replicate, length-append, length-replicate, length-drop, get_or-replicate, get_or-append, get_or-eq_default}
+use lib.Seq.{drop-cons, get_or-take, get_or-append-add, length-take-le}
 use borrow.Author.Tests.{ltb-true, ltb-false, lt-ltb, le-ltb, eqb-true, eq-eqb, ne_eqb}
+use Rattle.std.proofs.lemmas.List.{get_or-append_right, take_at}
+use Rattle.std.proofs.lemmas.Slice.{take-put_mid}
+use borrow.Rule.Slice.PartMut.{put_mid}
+use Rattle.std.proofs.lemmas.Grind.{same_number_lists}
 use Rattle.laws.specs.Row.{pick, each}
 use Rattle.field.specs.declared.class.Class.{Class}
 use Rattle.field.specs.Bytes.{in_class, all_of, blanks}
@@ -72,60 +76,53 @@ padded-at w t s {len} k e f h = go (ltb k len) refl
         padded-in w t k h (rw e l) ∙ f l
     go false q = padded-past w t k h (rw e (ltb-false k len q))
 
--- WRITING: the invariant is `take k part ≡ take k whole`
-pub bytes-more : (k : ℕ) (p whole : List ℕ) (b : ℕ) → k < length p → k < length whole → b ≡ get_or whole k 0 → take k p ≡ take k whole
-    → take (k + 1) (set p k b) ≡ take (k + 1) whole
-bytes-more k p whole b h g q e =
-    rw (add-one, take-suc-set p k b h, take-suc whole k 0 g, e, q)
+-- WRITING: what the text has of its first len bytes, zeros for the others, and blanks, are the padded text,
+abbrev pub three_parts : ℕ → List ℕ → ℕ → ℕ → List ℕ
+three_parts w s given there = take there s ++ (replicate (given - there) 0 ++ replicate (w - given) 32)
 
-pub bytes-end : {k : ℕ} (p whole : List ℕ) → length whole ≡ length p → length p ≤ k → take k p ≡ take k whole → p ≡ whole
-bytes-end {k = k} p whole l h e = sym (take_all k p h) ∙ e ∙ take_all k whole (omega arith)
+module _ (w len : ℕ) (s : List ℕ) (given there : ℕ) (g : given ≡ min len w) (t : there ≡ min given (length s)) where
+  length-there : length (take there s) ≡ there
+  length-there = length-take-le there s (omega arith)
 
-pub text-more : (k : ℕ) (p : List ℕ) (w len : ℕ) (s : List ℕ) (b : ℕ) → length p ≡ w → k < length p
-    → b ≡ pick (ltb k len) (get_or s k 0) 32 → take k p ≡ take k (padded w (first_bytes len s))
-    → take (k + 1) (set p k b) ≡ take (k + 1) (padded w (first_bytes len s))
-text-more k p w len s b lp h q e =
-    let t = first_bytes len s in
-    bytes-more k p (padded w t) b h (rw length-padded (omega arith)) (q ∙ sym (padded-at w t s k (length-first len s) (first-at len s k) (omega arith))) e
+  past-there : (k : ℕ) → there ≤ k → get_or (three_parts w s given there) k 0 ≡ get_or (replicate (given - there) 0 ++ replicate (w - given) 32) (k - there) 0
+  past-there k h = get_or-append_right (take there s) (replicate (given - there) 0 ++ replicate (w - given) 32) there k 0 length-there h
 
--- a padded text laid down byte by byte: k of them stand
-pub record Laid (w len : ℕ) (s p : List ℕ) (k : ℕ) : Type 0 where
-  pub long : length p ≡ w
-  pub few : k ≤ w
-  pub stand : take k p ≡ take k (padded w (first_bytes len s))
+  parts-at : (k : ℕ) → k < w → get_or (three_parts w s given there) k 0 ≡ get_or (padded w (first_bytes len s)) k 0
+  parts-at k h = go (dec_lt k there) (dec_lt k given) ∙ sym (padded-at w (first_bytes len s) s k (length-first len s) (first-at len s k) h)
+    where
+      go : Dec (k < there) → Dec (k < given) → get_or (three_parts w s given there) k 0 ≡ pick (ltb k len) (get_or s k 0) 32
+      go (yes l) m =
+          rw (lt-ltb k len (omega arith))
+          (get_or-append (take there s) (replicate (given - there) 0 ++ replicate (w - given) 32) 0 k (omega (arith, length-there)) ∙ get_or-take there s k 0 l)
+      go (no l) (yes m) =
+          rw (lt-ltb k len (omega arith))
+          (past-there k (omega arith)
+          ∙ get_or-append (replicate (given - there) 0) (replicate (w - given) 32) 0 (k - there) (omega (arith, length-replicate {A = ℕ} (given - there) 0))
+          ∙ get_or-replicate (given - there) (k - there) 0 0 (omega arith)
+          ∙ sym (get_or-eq_default s 0 {n = k} (omega arith)))
+      go (no l) (no m) =
+          rw (le-ltb k len (omega arith))
+          (past-there k (omega arith)
+          ∙ get_or-append_right (replicate (given - there) 0) (replicate (w - given) 32) (given - there) (k - there) 0 (length-replicate {A = ℕ} (given - there) 0) (omega arith)
+          ∙ get_or-replicate (w - given) (k - there - (given - there)) 32 0 (omega arith))
 
-pub laid-start : (w len : ℕ) (s p : List ℕ) → length p ≡ w → Laid w len s p 0
-laid-start w len s p e = record { long = e; few = omega arith; stand = refl }
+  length-parts : length (three_parts w s given there) ≡ w
+  length-parts = simp (length-append, length-replicate, length-there) (omega arith)
 
-module _ {w len : ℕ} {s p : List ℕ} {k : ℕ} (h : Laid w len s p k) where
-  laid_more : {b : ℕ} → k < w → b ≡ pick (ltb k len) (get_or s k 0) 32 → Laid w len s (set p k b) (k + 1)
-  laid_more {b} l q =
-      record {
-        long = simp length-set h.long;
-        few = omega arith;
-        stand = text-more k p w len s b h.long (omega (arith, h.long)) q h.stand;
-      }
+  pub parts-padded : three_parts w s given there ≡ padded w (first_bytes len s)
+  parts-padded =
+      same_number_lists (three_parts w s given there) (padded w (first_bytes len s)) (length-parts ∙ sym (length-padded w (first_bytes len s)))
+      (λ k h. parts-at k (omega (arith, length-parts)))
 
-  -- one of those that the slice has, a zero where it has none, and a blank after the text
-  pub laid-there : k < w → k < len → Laid w len s (set p k (get_or s k 0)) (k + 1)
-  laid-there l m = laid_more l (rw (lt-ltb k len m))
-
-  pub laid-zero : k < w → k < len → length s ≤ k → Laid w len s (set p k 0) (k + 1)
-  laid-zero l m past = laid_more l (rw (lt-ltb k len m) (sym (get_or-eq_default s 0 past)))
-
-  pub laid-blank : k < w → len ≤ k → Laid w len s (set p k 32) (k + 1)
-  laid-blank l m = laid_more l (rw (le-ltb k len m))
-
-  pub laid_end : w ≤ k → p ≡ padded w (first_bytes len s)
-  laid_end l = bytes-end {k = k} p (padded w (first_bytes len s)) (length-padded w (first_bytes len s) ∙ sym h.long) (omega (arith, h.long)) h.stand
-
--- what ends before the text does fills the part
-pub past-text : {given len n k : ℕ} → (given < len → given ≡ n) → given ≤ k → k < n → len ≤ k
-past-text {given} {len} {n} {k} e a b = go (dec_lt given len)
-  where
-    go : Dec (given < len) → len ≤ k
-    go (yes l) = absurd (omega (arith, e l))
-    go (no l) = omega arith
+-- and so is what three writes leave, one after the other
+pub written-parts : (p a b c : List ℕ) (given there : ℕ) → length a ≡ there → length b ≡ given - there → there ≤ given → given ≤ length p
+    → put_mid given (length (put_mid there (given - there) (a ++ drop there p) b) - given) (put_mid there (given - there) (a ++ drop there p) b) c ≡ a ++ (b ++ c)
+written-parts p a b c given there la lb l m =
+    let front : take given (put_mid there (given - there) (a ++ drop there p) b) ≡ take there (a ++ drop there p) ++ b
+    = take-put_mid there (given - there) (a ++ drop there p) b given (omega arith) (simp length-append (omega arith)) in
+    let back : drop (length (put_mid there (given - there) (a ++ drop there p) b) - given) (drop given (put_mid there (given - there) (a ++ drop there p) b)) ≡ []
+    = drop_of_length-le (drop given (put_mid there (given - there) (a ++ drop there p) b)) (omega (arith, length-drop given (put_mid there (given - there) (a ++ drop there p) b))) in
+    ap₂ (λ (x y : List ℕ). x ++ (c ++ y)) front back ∙ rw (take_at a (drop there p) there la, append-nil) (append_assoc a b c)
 
 -- TRAILING BLANKS: the invariant is `trim_to k part ≡ trim_to (length part) part`
 pub trim-blank : (k : ℕ) (s : List ℕ) → 0 < k → get_or s (k - 1) 0 ≡ 32 → trim_to (k - 1) s ≡ trim_to k s

@@ -29,10 +29,8 @@ impl Class {
         ensures { result ≡ all_of self t.now }
     {
         let mut so_far = true;
-        let mut j = 0;
-        while j < t.len() {
-            so_far = so_far & self.has(t[j]);
-            j += 1;
+        for b in t {
+            so_far &= self.has(*b);
         }
         so_far
     }

@@ -12,45 +12,26 @@ fn padded_byte(text: &[u8], len: usize, k: usize) -> u8
     if k < len { byte(text, k) } else { 32 }
 }
 
-fn shorter(a: usize, b: usize) -> usize
-    ensures { (result ≤ a) × (result ≤ b) × (result < a → result ≡ b) }
-{
-    if a < b { a } else { b }
-}
-
 // Fills the part with the first len bytes of the text, then blanks; a text that is longer is cut. What the slice has of these bytes, the
-// zeros that stand for the others, and the blanks are a loop each, so that each compiles to steps of several bytes.
+// zeros that stand for the others, and the blanks are a write each, of several bytes at a step.
 pub fn put_text(part: &mut [u8], text: &[u8], len: usize)
     ensures { part.new ≡ padded (length part.old) (first_bytes len text.now) }
 {
-    let n = part.len();
-    let given = shorter(len, n);
-    let there = shorter(given, text.len());
-    let mut k = 0;
-    while k < there {
-        part[k] = text[k];
-        k += 1;
-    }
-    while k < given {
-        part[k] = 0;
-        k += 1;
-    }
-    while k < n {
-        part[k] = 32;
-        k += 1;
-    }
+    let given = len.min(part.len());
+    let there = given.min(text.len());
+    part[..there].copy_from_slice(&text[..there]);
+    part[there..given].fill(0);
+    part[given..].fill(32);
 }
 
 // How many bytes of the part are left without its trailing blanks.
 pub fn trimmed_len(part: &[u8]) -> usize
     ensures { result ≡ length (trimmed part.now) }
 {
-    let mut k = part.len();
-    while 0 < k {
-        if part[k - 1] != 32 {
-            return k;
+    for k in (0..part.len()).rev() {
+        if part[k] != 32 {
+            return k + 1;
         }
-        k -= 1;
     }
     0
 }
@@ -84,22 +65,14 @@ pub fn not_given(text: &[u8], len: usize) -> bool
     (len == 2) & (byte(text, 0) == 78) & ((b == 65) | (b == 68))
 }
 
-fn widen(b: u8) -> u64
-    ensures { result ≡ b }
-{
-    b as u64
-}
-
 // The part's text, of up to eight bytes, as one number.
 pub fn word(part: &[u8]) -> u64
     ensures { result ≡ word_of (trimmed part.now) }
 {
     let len = trimmed_len(part);
     let mut n: u64 = 0;
-    let mut k = 0;
-    while k < 8 {
-        n = n * 256 + widen(padded_byte(part, len, k));
-        k += 1;
+    for k in 0..8 {
+        n = n * 256 + u64::from(padded_byte(part, len, k));
     }
     n
 }

@@ -3,28 +3,27 @@
 use Prim.Native.Nat.{ℕ, zero, suc, ◌+◌, ◌/◌, ◌%◌, ◌≤◌}
 use mathlib.Core.Bool.{Bool, true, false, ◌&&◌}
 use mathlib.Core.List.{List, [], ◌∷◌}
-use mathlib.Core.Option.{Option, none, some}
+use mathlib.Core.Option as math
+use mathlib.Core.Option.{none, some}
 use mathlib.Core.Path.{◌≡◌, refl, sym, ◌∙◌}
-use native.Mathlib.Numerals.{add-one}
 use native.Mathlib.Omega.{arith}
 use lib.Dec.{eqb}
 use lib.ListN.{get_or}
 use borrow.Author.Tests.{eq-eqb}
 use Rattle.laws.specs.Find.{first_index}
 use Rattle.laws.proofs.FindLaws.{true-false, index-some-at}
-use Rattle.index.specs.declared.Found.{Found}
+use Rattle.std.specs.Prelude.{Option, unwrap_or}
 use Rattle.index.specs.Keys.{found_of}
 use Rattle.record.specs.declared.kind.Kind.{Kind}
 use Rattle.record.specs.declared.kind.Kind.TheVariants.{ObPun, ObLin, Tramo, Vertice, Nodo}
-use Rattle.record.specs.declared.reason.Reason.TheVariants.{LongFile10, SamePlace54}
+use Rattle.record.specs.declared.reason.Reason.TheVariants.{LongFile10}
 use Rattle.laws.proofs.MatchLaws.{NoneOf, numbers, default-at}
 use Rattle.record.specs.Table.{file_of}
 use Rattle.record.specs.Says.{Table}
 use Rattle.record.specs.Files.{Delivery}
 use Rattle.keys.specs.Rules.{or_first}
 use Rattle.keys.proofs.CellLaws.{not-cell}
-use Rattle.topology.specs.machinery.Places.{or_index}
-use Rattle.topology.specs.Rules.{is_at, same_place, breaks50, breaks51, breaks52, breaks53, breaks54, breaks55, breaks56, breaks57, breaks58, breaks59, fifties, reasons_at}
+use Rattle.topology.specs.Rules.{is_at, breaks50, breaks51, breaks52, breaks53, breaks54, breaks55, breaks56, breaks57, breaks58, breaks59, fifties, reasons_at}
 
 -- IN A LIST, whose first is number n: the default d stands at the number u, where it does at each number that u can be
 pub data Else {A : Type 0} (d : A) (u : ℕ) : ℕ → List A → Type 0 where
@@ -77,23 +76,19 @@ free-tests d {k} i {f} o =
     (past (not-read (is_at Tramo 4 k f) _ o.line) end)))))))))
 
 -- THE REASONS
-first-index : (o : Option ℕ) → or_index (found_of o) ≡ or_first o
+first-index : (o : math.Option ℕ) → unwrap_or (found_of o) 0 ≡ or_first o
 first-index none = refl
 first-index (some j) = refl
 
-module _ (p : ℕ → Bool) (n : ℕ) {g : Found} (e : g ≡ found_of (first_index p n)) where
-  pub index-under : or_index g ≤ n
+module _ (p : ℕ → Bool) (n : ℕ) {g : Option ℕ} (e : g ≡ found_of (first_index p n)) where
+  pub index-under : unwrap_or g 0 ≤ n
   index-under = rw (e, first-index) (go (first_index p n) refl)
     where
-      go : (o : Option ℕ) → first_index p n ≡ o → or_first o ≤ n
+      go : (o : math.Option ℕ) → first_index p n ≡ o → or_first o ≤ n
       go none q = omega arith
       go (some j) q = omega (arith, (index-some-at p n q).0)
 
 module _ (nodes : Table) (i u : ℕ) where
-  pub reason-54 : {g : Found} {x : ℕ} → u ≡ 4 → g ≡ found_of (first_index (same_place nodes i) i) → x ≡ or_index g
-      → SamePlace54 (x + 1) ≡ get_or (reasons_at nodes i) u LongFile10
-  reason-54 e q h = rw (e, h, q, first-index, add-one)
-
   pub reason-else : NoneOf (numbers 0 10) u → LongFile10 ≡ get_or (reasons_at nodes i) u LongFile10
   reason-else o = default-at LongFile10 0 (reasons_at nodes i) u o
 

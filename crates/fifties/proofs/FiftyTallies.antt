@@ -1,7 +1,7 @@
 -- The tallies of the fifties (specs/machinery/Cells.antt): from the marks of each file's rules to its tally, and from that to its finding.
 -- Assumes nothing.
 use Prim.Native.Nat.{ℕ, ◌+◌, ◌-◌, ◌*◌, ◌/◌, ◌%◌, ◌<◌, ◌≤◌}
-use mathlib.Core.Bool.{true, false}
+use mathlib.Core.Bool.{false}
 use mathlib.Core.List.{List, [], ◌∷◌}
 use mathlib.Core.Path.{◌≡◌, refl, sym, ap, ◌∙◌}
 use native.Mathlib.Omega.{arith}
@@ -12,12 +12,14 @@ use Rattle.laws.specs.Count.{how_many}
 use Rattle.index.specs.Keys.{found_of, listed}
 use Rattle.index.specs.Marks.{Marked, is_marked}
 use Rattle.index.specs.Tally.{no_tally, with_cell}
+use Rattle.std.specs.Prelude.{Some, None}
+use Rattle.index.specs.declared.tally.First.{First}
 use Rattle.index.specs.declared.tally.Tally.{Tally}
 use Rattle.record.specs.declared.kind.Kind.{Kind}
 use Rattle.record.specs.declared.kind.Kind.TheVariants.{Catalogo, ObPun, ObTex, ObLin, Tramo, Vertice, Nodo, ObComp}
 use Rattle.record.specs.declared.reason.Reason.TheVariants.{LongFile10}
 use Rattle.record.specs.declared.reason.Break.{Break}
-use Rattle.record.specs.declared.reason.Finding.TheVariants.{Fine, Broken}
+use Rattle.std.specs.Prelude.{Ok, Err}
 use Rattle.record.specs.Table.{file_of, kinds, limit}
 use Rattle.record.specs.Breaks.{break_of}
 use Rattle.record.specs.Files.{Files, Delivery, delivery_of}
@@ -66,9 +68,6 @@ module _ (d : Delivery) (k : Kind) where
   -- a tally counts little, so that it can go on
   pub little : (t : Tally) (m : ℕ) → (d k).count ≤ limit → m ≤ 200 → TalliedTo (fifties d k) (d k).count m t → t.many ≤ 4294967296
   little t m l s b = omega (arith, tallied-most (fifties d k) (d k).count t m l b)
-
-pub none-little : {t : Tally} → t ≡ no_tally → t.many ≤ 4294967296
-none-little e = rw e (omega arith)
 
 module _ (d : Delivery) where
   -- VERTICE: 50 and 51
@@ -249,15 +248,15 @@ module _ (d : Delivery) where
       ∙ ap (fifty_tally d) (kind_at k)
 
   module _ (k : Kind) {t : Tally} (e : t ≡ fifty_tally d k) where
-    pub fifty-row : t.found ≡ true → t.at < (d k).count
+    pub fifty-row : {f : First} → t.first ≡ Some f → f.at < (d k).count
     unfolding fifty_tally
     fifty-row = tally-row (fifties d k) k (d k).count e
 
-    pub fifty-broken : {x : Break} → t.found ≡ true
-        → x ≡ break_of (get_or (fifty_reasons d k t.at (t.cell / 10)) (t.cell % 10) LongFile10) k (t.at + 1) (t.cell / 10) → Broken x ≡ topology_in d k
+    pub fifty-broken : {f : First} {x : Break} → t.first ≡ Some f
+        → x ≡ break_of (get_or (fifty_reasons d k f.at (f.cell / 10)) (f.cell % 10) LongFile10) k (f.at + 1) (f.cell / 10) → Err x ≡ topology_in d k
     unfolding fifty_tally topology_in
     fifty-broken = tally-broken (fifties d k) k (d k).count e (fifty_reasons d k)
 
-    pub fifty-fine : t.found ≡ false → Fine ≡ topology_in d k
+    pub fifty-fine : t.first ≡ None → Ok tt ≡ topology_in d k
     unfolding fifty_tally topology_in
     fifty-fine = tally-fine (fifties d k) k (d k).count e (fifty_reasons d k)

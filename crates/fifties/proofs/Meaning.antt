@@ -11,7 +11,7 @@ use Rattle.laws.proofs.FindLaws.{any-no}
 use Rattle.record.specs.declared.kind.Kind.{Kind}
 use Rattle.record.specs.declared.reason.Reason.TheVariants.{LongFile10}
 use Rattle.record.specs.declared.reason.Break.{Break}
-use Rattle.record.specs.declared.reason.Finding.TheVariants.{Broken}
+use Rattle.std.specs.Prelude.{Err}
 use Rattle.record.specs.Breaks.{number_of}
 use Rattle.record.proofs.Claims.{MeansBy}
 use Rattle.record.specs.Files.{Delivery}
@@ -33,6 +33,6 @@ pub topology-means : (d : Delivery) (k : Kind) → MeansBy (topology_broken d k)
 unfolding topology_in topology_broken
 topology-means d k = group-means 5 (topology_tests d k) (fifty_reasons d k) k (d k).count (fifty-numbered d k)
 
-pub topology-shown : (d : Delivery) (k : Kind) {b : Break} → topology_in d k ≡ Broken b → ShownBy (fifty_reasons d k) k b
+pub topology-shown : (d : Delivery) (k : Kind) {b : Break} → topology_in d k ≡ Err b → ShownBy (fifty_reasons d k) k b
 unfolding topology_in
 topology-shown d k e = group-shown 5 (topology_tests d k) (fifty_reasons d k) k (d k).count (fifty-numbered d k) e

@@ -4,3 +4,4 @@
 pub mod group;
 mod lines;
 mod nodes;
+mod room;

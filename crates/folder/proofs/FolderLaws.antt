@@ -1,22 +1,19 @@
--- What is read into a part of the room fits it, and so do eight lengths (specs/Folder.antt); what is read on stands behind what was read.
+-- What is read on stands behind what was read; the lengths of the files so far (specs/Folder.antt).
 -- Assumes nothing.
-use Prim.Native.Nat.{ℕ, zero, suc, ◌+◌, ◌-◌, ◌≤◌}
-use mathlib.Core.List.{List, [], ◌∷◌, ◌++◌}
-use mathlib.Core.Path.{◌≡◌, ◌∙◌, ap, ap₂, sym}
-use mathlib.Core.Logic.{◌⊎◌, ⊎_elim}
+use Prim.Native.Nat.{ℕ, zero, suc, ◌+◌, ◌<◌, ◌≤◌}
+use mathlib.Core.Bool.{Bool, true, false}
+use mathlib.Core.List.{List, ◌++◌}
+use lib.Dec.{eqb}
+use borrow.Author.Tests.{eqb-true, eqb-false}
+use mathlib.Core.Path.{◌≡◌, refl, ◌∙◌, ap, ap₂, sym}
+use mathlib.Core.Logic.{◌⊎◌, inl, inr, ⊎_elim}
 use native.Mathlib.Omega.{arith}
-use lib.ListN.{length, get_or, take, drop}
-use lib.Seq.{take-add, take-append-le}
-use borrow.Rule.Slice.PartMut.{mid_of, mid_len, put_mid, post_of}
+use lib.ListN.{length, get_or, take, drop, set, replicate}
+use lib.Seq.{take-add, take-append-le, get_or-set_same, get_or-set_other}
+use borrow.Rule.Slice.PartMut.{put_mid, post_of}
 use Rattle.std.proofs.Common.{le_refl, drop_at, length-take-le}
 use Rattle.std.proofs.lemmas.Slice.{take-put_mid_below}
-use Rattle.folder.specs.Folder.{file_room, failed, Lengths}
-
-pub part-most :
-    (at : ℕ) (buf : List ℕ) {r : ℕ} → at + file_room ≤ length buf → (r ≤ length (mid_of at (at + file_room - at) buf)) ⊎ (r ≡ failed) → r ≤ failed
-part-most at buf h o =
-    let w = mid_len at (at + file_room) buf (omega arith) in
-    ⊎_elim (λ l. omega arith) (λ e. omega arith) o
+use Rattle.folder.specs.Folder.{failed, Lengths}
 
 -- what is read into the room behind what was read stands behind it
 pub read_on :
@@ -28,18 +25,29 @@ read_on at k n xs ys within fits =
     ap (take n) (drop_at (take at xs) (ys ++ post_of at k xs) at (length-take-le at xs within)) ∙ take-append-le n ys (post_of at k xs) fits in
     ap₂ (λ a b. a ++ b) (sym front) (sym behind) ∙ sym (take-add at n all)
 
-pub lengths :
-    {a b c d e f g h : ℕ} → a ≤ failed → b ≤ failed → c ≤ failed → d ≤ failed → e ≤ failed → f ≤ failed → g ≤ failed → h ≤ failed
-    → Lengths (a ∷ b ∷ c ∷ d ∷ e ∷ f ∷ g ∷ h ∷ [])
-lengths {a} {b} {c} {d} {e} {f} {g} {h} la lb lc ld le lf lg lh = record { most = at }
+-- LENGTHS, a loop's: at the start each is 0, and one more fits
+zeros : (n i : ℕ) → ◌≡◌ {A = ℕ} (get_or (replicate n 0) i 0) 0
+zeros zero i = refl
+zeros (suc n) zero = refl
+zeros (suc n) (suc i) = zeros n i
+
+pub lengths_start : (n : ℕ) → Lengths (replicate n 0)
+lengths_start n = record { most = λ i. let e = zeros n i in omega arith }
+
+pub lengths_more : {lens : List ℕ} {i x : ℕ} → i < length lens → x ≤ failed → Lengths lens → Lengths (set lens i x)
+lengths_more {lens} {i} {x} l le w =
+    record {
+      most =
+          λ j.
+          ⊎_elim
+          (λ (e : j ≡ i). rw (e, get_or-set_same lens i x 0 l) le)
+          (λ (ne : j ≡ i → ⊥). rw (get_or-set_other lens i j x 0 ne) (w.most j))
+          (same_or j i);
+    }
   where
-    at : (i : ℕ) → get_or (a ∷ b ∷ c ∷ d ∷ e ∷ f ∷ g ∷ h ∷ []) i 0 ≤ failed
-    at zero = la
-    at (suc zero) = lb
-    at (suc (suc zero)) = lc
-    at (suc (suc (suc zero))) = ld
-    at (suc (suc (suc (suc zero)))) = le
-    at (suc (suc (suc (suc (suc zero))))) = lf
-    at (suc (suc (suc (suc (suc (suc zero)))))) = lg
-    at (suc (suc (suc (suc (suc (suc (suc zero))))))) = lh
-    at (suc (suc (suc (suc (suc (suc (suc (suc i)))))))) = omega arith
+    same_or : (j i : ℕ) → (j ≡ i) ⊎ (j ≡ i → ⊥)
+    same_or j i = go (eqb j i) refl
+      where
+        go : (b : Bool) → eqb j i ≡ b → (j ≡ i) ⊎ (j ≡ i → ⊥)
+        go true e = inl (eqb-true j i e)
+        go false e = inr (eqb-false j i e)

@@ -14,6 +14,5 @@ fn main(rt: HostRuntime) {
         return;
     }
     let rows = program_rows(files_in(&room, lens));
-    let bytes = rows.bytes;
-    let _ = rt.stdout().write_all(part(&bytes, 0, rows.len));
+    let _ = rt.stdout().write_all(part(&rows.bytes, 0, rows.len));
 }

@@ -2,7 +2,7 @@
 -- Assumes nothing.
 use Prim.Native.Nat.{ℕ, suc, ◌+◌, ◌<◌, ◌≤◌}
 use mathlib.Core.Bool.{Bool, true, false}
-use mathlib.Core.List.{List, [], ◌∷◌}
+use mathlib.Core.List.{List, []}
 use mathlib.Core.Path.{◌≡◌, refl, sym, ap, ◌∙◌}
 use mathlib.Core.Logic.{◌⊎◌, inl, inr, ⊎_elim}
 use native.Mathlib.Nat.{eq-or-lt_of_le, le_of_suc-le-suc}
@@ -11,6 +11,7 @@ use lib.Dec.{eqb}
 use lib.ListN.{length, get_or, set, length-set, replicate}
 use lib.Seq.{get_or-set_same, get_or-set_other}
 use borrow.Author.Tests.{eqb-true, eqb-false}
+use Rattle.std.proofs.lemmas.List.{ext_get_or}
 use Rattle.laws.specs.Row.{row}
 use Rattle.laws.proofs.RowLaws.{length-row, row_at}
 use Rattle.record.specs.Table.{file_count}
@@ -29,24 +30,14 @@ pub record Filling (f : ℕ → ℕ → ℕ) (a : Grid) (i g : ℕ) : Type 0 whe
   pub rows : (j h : ℕ) → j < i → h < groups → cell_at a j h ≡ f j h
   pub cells : (h : ℕ) → h < g → cell_at a i h ≡ f i h
 
--- two lists of one length with the same elements
-pub list_same : {A : Type 0} (d : A) (xs ys : List A) → length xs ≡ length ys → ((i : ℕ) → i < length xs → get_or xs i d ≡ get_or ys i d) → xs ≡ ys
-list_same d [] [] e same = refl
-list_same d [] (y ∷ ys) e same = absurd (omega arith)
-list_same d (x ∷ xs) [] e same = absurd (omega arith)
-list_same {A} d (x ∷ xs) (y ∷ ys) e same =
-    let h = same 0 (omega arith) in
-    let t = list_same d xs ys (omega arith) (λ i l. same (suc i) (omega arith)) in
-    rw (h, t)
-
 -- a grid is its cells
 pub grid-same : (a b : Grid) → Shaped a → Shaped b → ((i g : ℕ) → i < file_count → g < groups → cell_at a i g ≡ cell_at b i g) → a ≡ b
 unfolding cell_at
 grid-same a b s t same =
-    list_same [] a b (s.tall ∙ sym t.tall)
+    ext_get_or [] a b (s.tall ∙ sym t.tall)
     (λ i l.
     let li : i < file_count = omega (arith, s.tall) in
-    list_same 0 (get_or a i []) (get_or b i []) (s.wide i li ∙ sym (t.wide i li)) (λ g u. same i g li (omega (arith, s.wide i li))))
+    ext_get_or 0 (get_or a i []) (get_or b i []) (s.wide i li ∙ sym (t.wide i li)) (λ g u. same i g li (omega (arith, s.wide i li))))
 
 -- one that is given by its cells
 pub shaped_row : (f : ℕ → ℕ → ℕ) → Shaped (row (λ i. row (f i) groups) file_count)

@@ -6,24 +6,23 @@ use mathlib.Core.List.{List, [], ◌∷◌, map}
 use mathlib.Core.Option.{Option, none, some}
 use mathlib.Core.Path.{◌≡◌, refl, sym, ap, ap₂, ◌∙◌}
 use mathlib.Core.Logic.{◌⊎◌, inl, inr, ⊎_elim}
-use native.Mathlib.Nat.{le_of_suc-le-suc, not-suc-le-zero, eq-or-lt_of_le}
+use native.Mathlib.Nat.{le_of_suc-le-suc, eq-or-lt_of_le}
 use native.Mathlib.Omega.{arith}
 use lib.Dec.{ltb, eqb}
-use lib.ListN.{length, get_or, replicate, length-map}
+use lib.ListN.{get_or, replicate}
 use borrow.Author.Tests.{ltb-true, ltb-false, lt-ltb, eqb-true, eq-eqb, ne_eqb, not-false}
+use Rattle.std.proofs.lemmas.List.{get_or-map}
 use Rattle.laws.specs.Find.{any, first_index, first_of}
 use Rattle.laws.specs.Count.{bit, sum_of, total}
 use Rattle.laws.specs.Nest.{many}
 use Rattle.laws.specs.Row.{pick, row}
 use Rattle.laws.proofs.FindLaws.{index-here, index-none, index-none-at, index-some-at, any_at, any-no}
-use Rattle.laws.proofs.RowLaws.{and-true, row_same, row_at, length-row}
+use Rattle.laws.proofs.RowLaws.{and-true, row_same}
 use Rattle.laws.proofs.SumLaws.{sum-none, sum-no, sum_one, total-row}
-use Rattle.index.specs.declared.tally.Tally.{Tally}
-use Rattle.index.specs.Tally.{no_tally}
 use Rattle.record.specs.declared.kind.Kind.{Kind}
 use Rattle.record.specs.declared.kind.Kind.TheVariants.{Catalogo}
-use Rattle.record.specs.declared.kind.Which.{Which}
-use Rattle.record.specs.declared.kind.Which.TheVariants.{NoFile, File}
+use Rattle.record.specs.Table.{Which}
+use Rattle.std.specs.Prelude.{None, Some}
 use Rattle.record.specs.Table.{file_of, file_count, which_of, on_file, kinds}
 use Rattle.record.specs.Files.{Files, delivery_of}
 use Rattle.record.specs.Rules.{breaks10}
@@ -35,7 +34,7 @@ use Rattle.keys.specs.Rules.{or_first}
 use Rattle.judge.specs.Broken.{groups, last_ten, is_there, said_tests, tests_of, breaks_in, at_which, breaks_of}
 use Rattle.grids.specs.Grid.{ten_of, lowest, cell_of, grid_of}
 use Rattle.grids.specs.machinery.Counted.{counted_in, counted_of, column_of}
-use Rattle.grids.proofs.FillLaws.{list_same, Shaped, shaped_row}
+use Rattle.grids.proofs.FillLaws.{Shaped, shaped_row}
 use Rattle.grids.proofs.TenLaws.{shape-many, fields-many, thirties-many, forties-many, fifties-many, seventies-many, tests-none}
 
 zero_is : (x : ℕ) → ltb 0 x ≡ false → x ≡ 0
@@ -44,12 +43,6 @@ zero_is x e = let l = ltb-false 0 x e in omega arith
 pub positive : (x : ℕ) → (x ≡ 0 → ⊥) → 0 < x
 positive zero h = absurd (h refl)
 positive (suc x) h = omega arith
-
--- an element of a list's images
-map_at : {A B : Type 0} (h : A → B) (xs : List A) (i : ℕ) (d : B) (d' : A) → i < length xs → get_or (map h xs) i d ≡ h (get_or xs i d')
-map_at h [] i d d' l = absurd (not-suc-le-zero l)
-map_at h (x ∷ xs) zero d d' l = refl
-map_at h (x ∷ xs) (suc i) d d' l = map_at h xs i d d' (le_of_suc-le-suc l)
 
 map_same : {A B : Type 0} (f g : A → B) (xs : List A) → ((x : A) → f x ≡ g x) → map f xs ≡ map g xs
 map_same f g [] same = refl
@@ -95,30 +88,16 @@ none-picked false u = refl
 abbrev pub column_cell : ℕ → List ℕ → ℕ → ℕ → ℕ
 column_cell t counts i g = pick (eqb (ten_of g) t) (get_or counts i 0) 0
 
-abbrev pub many_at : List Tally → ℕ → ℕ
-many_at tallies i = (get_or tallies i no_tally).many
-
 abbrev pub bytes_in : Bool → Files → Kind → ℕ
 bytes_in shape files k = pick shape (shape_many (files k) k) (fields_many (files k) k)
 
 unfoldable pub bytes_no : Bool → Files → ℕ → ℕ
 bytes_no shape files n = on_file (bytes_in shape files) (which_of (n + 1))
 
-pub bytes-turn : (shape : Bool) (files : Files) (n : ℕ) {w : Which} {r : ℕ} → w ≡ which_of (n + 1) → r ≡ on_file (bytes_in shape files) w → r ≡ bytes_no shape files n
-unfolding bytes_no
-bytes-turn shape files n e h = rw (← e) h
-
 pub bytes-row : (shape : Bool) (files : Files) → row (bytes_no shape files) file_count ≡ counted_of files (pick shape 1 2)
 unfolding bytes_no counted_of counted_in row which_of on_file
 bytes-row true files = refl
 bytes-row false files = refl
-
-pub many-row : (tallies : List Tally) → length tallies ≡ file_count → row (many_at tallies) file_count ≡ map (λ t. t.many) tallies
-many-row tallies e =
-    list_same 0 _ _ (length-row (many_at tallies) file_count ∙ sym e ∙ sym (length-map tallies (λ t. t.many)))
-    (λ i l.
-    let li : i < file_count = omega (arith, length-row (many_at tallies) file_count) in
-    row_at (many_at tallies) file_count 0 li ∙ sym (map_at (λ t. t.many) tallies i 0 no_tally (omega arith)))
 
 module _ (files : Files) where
   -- A TEN'S BREAKS, in all files and in one
@@ -133,8 +112,8 @@ module _ (files : Files) where
   in-files t quiet = sum-none _ (file_count + 1) (λ n _. at (which_of n))
     where
       at : (w : Which) → many (at_which (breaks_in files t) w) ≡ 0
-      at NoFile = refl
-      at (File k) = quiet k
+      at None = refl
+      at (Some k) = quiet k
 
   pub ten-total : (t : ℕ) → many (breaks_of files t) ≡ total (map (λ k. many (breaks_in files t k)) kinds)
   unfolding many breaks_of sum_of which_of total
@@ -222,7 +201,7 @@ module _ (files : Files) where
 
   counted-at : (t i : ℕ) → i < file_count → get_or (counted_of files t) i 0 ≡ counted_in files t (get_or kinds i Catalogo)
   unfolding counted_of
-  counted-at t i l = map_at (counted_in files t) kinds i 0 Catalogo l
+  counted-at t i l = get_or-map (counted_in files t) kinds i Catalogo 0 l
 
   -- whether any file has one tells whether the ten has
   pub none-counted :

@@ -19,10 +19,10 @@ use Rattle.laws.proofs.NestLaws.{at, at-within, at_some, run_none}
 use Rattle.laws.proofs.ListedLaws.{in-same, in_map, map-in, once-map}
 use Rattle.laws.proofs.ManyLaws.{many-run, places_in, places-long, places-once, place-stands, stands-place}
 use Rattle.record.specs.declared.kind.Kind.{Kind}
-use Rattle.record.specs.declared.kind.Which.{Which}
+use Rattle.record.specs.Table.{Which}
 use Rattle.record.specs.declared.reason.Break.{Break}
-use Rattle.record.specs.declared.reason.Finding.{Finding}
-use Rattle.record.specs.declared.reason.Finding.TheVariants.{Fine, Broken}
+use Rattle.record.specs.Breaks.{Finding}
+use Rattle.std.specs.Prelude.{Ok, Err}
 use Rattle.record.specs.Table.{file_of, file_count, which_of}
 use Rattle.record.specs.Files.{Files}
 use Rattle.record.specs.Breaks.{number_of}
@@ -200,13 +200,13 @@ module _ (files : Files) where
       go true e = absurd (let z = quiet (n / 10) (holds-stands n k i f e).1 in let p = holds-many n k i f e in omega arith)
       go false e = refl
 
-  zero-accepted : many (breaks_of files (lowest files)) ≡ 0 → judged files ≡ Fine
+  zero-accepted : many (breaks_of files (lowest files)) ≡ 0 → judged files ≡ Ok tt
   zero-accepted z =
       ⊎_elim (λ w. (accepted-plainly files).1 (no_test w.1)) (λ w. absurd (let p = w.has in omega arith)) (lowest-is files)
 
   pub zero-exactly :
-      (judged files ≡ Fine → grid_of files ≡ replicate file_count (replicate groups 0))
-      × (grid_of files ≡ replicate file_count (replicate groups 0) → judged files ≡ Fine)
+      (judged files ≡ Ok tt → grid_of files ≡ replicate file_count (replicate groups 0))
+      × (grid_of files ≡ replicate file_count (replicate groups 0) → judged files ≡ Ok tt)
   unfolding total
   zero-exactly = (
     λ e. sym (zeros-are files (lowest-none files (λ t _. none-hold t (λ n k i f _. (accepted-plainly files).0 e n k i f)))),
@@ -214,12 +214,12 @@ module _ (files : Files) where
   )
 
   -- THE BREAK SHOWN is of the grid's ten, and its file's cell isn't zero
-  first_of : (b : Break) → judged files ≡ Broken b → First files b
+  first_of : (b : Break) → judged files ≡ Err b → First files b
   unfolding verdict_of Finds
   first_of b e = subst (λ (v : Finding). Finds files v) e (exact files).finds
 
   pub shown-counted :
-      (b : Break) → judged files ≡ Broken b
+      (b : Break) → judged files ≡ Err b
       → (k : Kind) × (file_of k ≡ b.file) × (lowest files ≡ number_of b.reason / 10) × (0 < cell_of files k (number_of b.reason / 10))
   unfolding cell_of
   shown-counted b e =

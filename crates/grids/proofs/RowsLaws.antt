@@ -1,50 +1,21 @@
 -- The rows as the program's code writes them: a count after the other.
 -- Assumes nothing.
 use Prim.Native.Nat.{ℕ, ◌+◌, ◌*◌, ◌-◌, ◌≤◌}
-use mathlib.Core.List.{List, [], ◌∷◌, ◌++◌, append_assoc, append-nil}
+use mathlib.Core.List.{List, ◌++◌, append_assoc, append-nil}
 use mathlib.Core.Path.{◌≡◌, refl, sym, ap, ap₂, ◌∙◌}
 use native.Mathlib.Numerals.{add-one}
 use native.Mathlib.Omega.{arith}
-use lib.ListN.{length, get_or, take, drop, set, length-set, length-append, replicate}
-use lib.Seq.{take_at, take_all, length-take-le, take-suc-set}
-use borrow.Rule.Slice.PartMut.{put_mid, mid_of, same_len_mid, mid_len}
-use Rattle.laws.specs.Row.{row, strung}
+use lib.ListN.{length, take, drop, replicate}
+use lib.Seq.{take_all}
+use Rattle.laws.specs.Row.{strung}
 use Rattle.field.specs.Digits.{digits}
 use Rattle.record.specs.Table.{file_count}
 use Rattle.judge.specs.Broken.{groups}
+use Rattle.judge.specs.declared.line.Line.{Line}
 use Rattle.judge.specs.Line.{big_line, line_in}
 use Rattle.grids.specs.Grid.{Grid}
 use Rattle.grids.specs.Sum.{cell_at}
 use Rattle.grids.specs.Rows.{count_text, row_text, rows_text, rows_room, rows_in}
-
--- A COUNT is put: its digits, then the byte after them
-module _ (at n end : ℕ) (buf ys : List ℕ) (h : at + 11 ≤ length buf) (l : length ys ≡ length (mid_of at (at + 10 - at) buf)) (e : ys ≡ digits (length (mid_of at (at + 10 - at) buf)) n) where
-  part_room : length (mid_of at (at + 10 - at) buf) ≡ 10
-  part_room = mid_len at (at + 10) buf (omega arith) ∙ omega arith
-
-  mid-keeps : length (put_mid at (at + 10 - at) buf ys) ≡ length buf
-  mid-keeps = same_len_mid at (at + 10 - at) buf ys l
-
-  mid-put : take (at + 10) (put_mid at (at + 10 - at) buf ys) ≡ take at buf ++ digits 10 n
-  mid-put =
-      let rest = drop (at + 10 - at) (drop at buf) in
-      let p : length (take at buf ++ ys) ≡ at + 10 = simp (length-append, length-take-le at buf (omega arith)) (omega (arith, part_room)) in
-      ap (take (at + 10)) (sym (append_assoc (take at buf) ys rest))
-      ∙ take_at (take at buf ++ ys) rest (at + 10) p
-      ∙ ap (λ (s : List ℕ). take at buf ++ s) (e ∙ ap (λ (m : ℕ). digits m n) part_room)
-
-  pub count-put :
-      (at + 10 + 1 ≡ at + 11)
-      × (take (at + 10 + 1) (set (put_mid at (at + 10 - at) buf ys) (at + 10) end) ≡ take at buf ++ (digits 10 n ++ (end ∷ [])))
-      × (length (set (put_mid at (at + 10 - at) buf ys) (at + 10) end) ≡ length buf)
-  count-put = (
-    omega arith,
-    ap (λ (m : ℕ). take m (set (put_mid at (at + 10 - at) buf ys) (at + 10) end)) (add-one (at + 10))
-        ∙ take-suc-set (put_mid at (at + 10 - at) buf ys) (at + 10) end (omega (arith, mid-keeps))
-        ∙ ap (λ (s : List ℕ). s ++ (end ∷ [])) mid-put
-        ∙ append_assoc (take at buf) (digits 10 n) (end ∷ []),
-    length-set (put_mid at (at + 10 - at) buf ys) (at + 10) end ∙ mid-keeps,
-  )
 
 -- LOOPS: the rows before i, and of row i the counts before g, are written
 pub record Writing (grid : Grid) (bytes : List ℕ) (at i g : ℕ) : Type 0 where
@@ -98,7 +69,7 @@ writing-end {grid} {bytes} {at} {i} l u w =
 
 -- A LINE in the rows' stead
 pub big-copied :
-    {from bytes : List ℕ} (file : ℕ) → from ≡ (line_in (big_line file)).bytes → bytes ≡ row (λ j. get_or from j 0) 6 ++ drop 6 (replicate rows_room 0)
-    → record { len = 6; bytes = bytes } ≡ rows_in (big_line file)
-unfolding rows_in line_in row digits
+    {part : List ℕ} {line : Line} (file : ℕ) → line ≡ line_in (big_line file) → part ≡ take 6 line.bytes
+    → record { len = 6; bytes = part ++ drop 6 (replicate rows_room 0) } ≡ rows_in (big_line file)
+unfolding rows_in line_in digits
 big-copied file e h = rw (h, e) refl

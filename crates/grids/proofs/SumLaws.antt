@@ -1,6 +1,6 @@
 -- Adding grids: refused exactly if a cell's sum is over ten digits; else cell by cell, in any order and grouping.
 -- Assumes nothing.
-use Prim.Native.Nat.{ℕ, ◌+◌, ◌-◌, ◌<◌, ◌≤◌}
+use Prim.Native.Nat.{ℕ, ◌+◌, ◌<◌, ◌≤◌}
 use mathlib.Core.Bool.{Bool, true, false}
 use mathlib.Core.Path.{◌≡◌, refl, sym, ap, ◌∙◌}
 use native.Mathlib.Omega.{arith}
@@ -9,8 +9,8 @@ use borrow.Author.Tests.{ltb-true, ltb-false, lt-ltb, le-ltb}
 use Rattle.laws.specs.Find.{any}
 use Rattle.laws.specs.Row.{pick}
 use Rattle.laws.proofs.FindLaws.{any_at, any-no, any-true, any_false, true-false}
-use Rattle.laws.proofs.RowLaws.{row_same, same_test}
-use Rattle.record.specs.declared.reason.Finding.TheVariants.{Fine}
+use Rattle.laws.proofs.RowLaws.{row_same}
+use Rattle.std.specs.Prelude.{Ok}
 use Rattle.record.specs.Table.{file_count}
 use Rattle.record.specs.Breaks.{fine}
 use Rattle.judge.specs.Broken.{groups}
@@ -24,13 +24,6 @@ sum_cell a b i g = cell_at a i g + cell_at b i g
 
 abbrev pub over_at : Grid → Grid → ℕ → ℕ → Bool
 over_at a b i g = ltb most_in_cell (sum_cell a b i g)
-
--- as the code asks
-pub over-rest : (x y : ℕ) → x ≤ most_in_cell → ltb (most_in_cell - x) y ≡ ltb most_in_cell (x + y)
-over-rest x y l =
-    same_test (ltb (most_in_cell - x) y) (ltb most_in_cell (x + y))
-    (λ e. let h = ltb-true (most_in_cell - x) y e in lt-ltb most_in_cell (x + y) (omega arith))
-    (λ e. let h = ltb-true most_in_cell (x + y) e in lt-ltb (most_in_cell - x) y (omega arith))
 
 -- WHERE A CELL'S SUM IS TOO LARGE, and where none is
 pub over-at : (a b : Grid) → too_many a b ≡ true → (i : ℕ) × (g : ℕ) × (i < file_count) × (g < groups) × (most_in_cell < cell_at a i g + cell_at b i g)
@@ -58,7 +51,7 @@ pub plus-at : (a b : Grid) (i g : ℕ) → i < file_count → g < groups → cel
 unfolding plus
 plus-at a b i g l u = cell_row (λ i g. cell_at a i g + cell_at b i g) i g l u
 
-fine-broken : refused67 ≡ Fine → ⊥
+fine-broken : refused67 ≡ Ok tt → ⊥
 fine-broken e = true-false (sym (ap fine e))
 
 -- REFUSED with 67 exactly if a cell's sum is too large, and then the grid is as it was; else it is the sum
@@ -69,19 +62,19 @@ pub refused-exactly :
 unfolding add_finding add_of
 refused-exactly a b = (λ e. over-at a b (over e), λ i g l u h. let t = over-is a b i g l u h in (rw t refl, rw t refl))
   where
-    over : pick (too_many a b) refused67 Fine ≡ refused67 → too_many a b ≡ true
+    over : pick (too_many a b) refused67 (Ok tt) ≡ refused67 → too_many a b ≡ true
     over e = go (too_many a b) refl e
       where
-        go : (t : Bool) → too_many a b ≡ t → pick t refused67 Fine ≡ refused67 → t ≡ true
+        go : (t : Bool) → too_many a b ≡ t → pick t refused67 (Ok tt) ≡ refused67 → t ≡ true
         go true q e = refl
         go false q e = absurd (fine-broken (sym e))
 
 pub added-exactly :
-    (a b : Grid) → add_finding a b ≡ Fine → (i g : ℕ) → i < file_count → g < groups → cell_at (add_of a b) i g ≡ cell_at a i g + cell_at b i g
+    (a b : Grid) → add_finding a b ≡ Ok tt → (i g : ℕ) → i < file_count → g < groups → cell_at (add_of a b) i g ≡ cell_at a i g + cell_at b i g
 unfolding add_finding add_of
 added-exactly a b e i g l u = go (too_many a b) refl e
   where
-    go : (t : Bool) → too_many a b ≡ t → pick t refused67 Fine ≡ Fine → cell_at (pick t a (plus a b)) i g ≡ cell_at a i g + cell_at b i g
+    go : (t : Bool) → too_many a b ≡ t → pick t refused67 (Ok tt) ≡ Ok tt → cell_at (pick t a (plus a b)) i g ≡ cell_at a i g + cell_at b i g
     go true q e = absurd (fine-broken e)
     go false q e = plus-at a b i g l u
 
@@ -116,16 +109,16 @@ over-grouped a b c e h = (
       (λ i g l u. let x = fits-at (plus a b) c i g h l u in let p = plus-at a b i g l u in let q = plus-at b c i g l u in omega arith),
 )
 
--- THE SAME OF ADDING, of which the answer is Fine where nothing is too large
-pub fits-fine : (a b : Grid) → add_finding a b ≡ Fine → too_many a b ≡ false
+-- THE SAME OF ADDING, of which the answer is Ok where nothing is too large
+pub fits-fine : (a b : Grid) → add_finding a b ≡ Ok tt → too_many a b ≡ false
 unfolding add_finding
 fits-fine a b e = go (too_many a b) e
   where
-    go : (t : Bool) → pick t refused67 Fine ≡ Fine → t ≡ false
+    go : (t : Bool) → pick t refused67 (Ok tt) ≡ Ok tt → t ≡ false
     go true e = absurd (fine-broken e)
     go false e = refl
 
-fine-fits : (a b : Grid) → too_many a b ≡ false → add_finding a b ≡ Fine
+fine-fits : (a b : Grid) → too_many a b ≡ false → add_finding a b ≡ Ok tt
 unfolding add_finding
 fine-fits a b e = rw e refl
 
@@ -133,15 +126,15 @@ pub added_is : (a b : Grid) → too_many a b ≡ false → add_of a b ≡ plus a
 unfolding add_of
 added_is a b e = rw e refl
 
-pub added-any-order : (a b : Grid) → add_finding a b ≡ Fine → (add_finding b a ≡ Fine) × (add_of a b ≡ add_of b a)
+pub added-any-order : (a b : Grid) → add_finding a b ≡ Ok tt → (add_finding b a ≡ Ok tt) × (add_of a b ≡ add_of b a)
 added-any-order a b e =
     let fit = fits-fine a b e in
     let back = over-swapped a b fit in
     (fine-fits b a back, added_is a b fit ∙ plus-swapped a b ∙ sym (added_is b a back))
 
 pub added-any-grouping :
-    (a b c : Grid) → add_finding a b ≡ Fine → add_finding (add_of a b) c ≡ Fine
-    → (add_finding b c ≡ Fine) × (add_finding a (add_of b c) ≡ Fine) × (add_of (add_of a b) c ≡ add_of a (add_of b c))
+    (a b c : Grid) → add_finding a b ≡ Ok tt → add_finding (add_of a b) c ≡ Ok tt
+    → (add_finding b c ≡ Ok tt) × (add_finding a (add_of b c) ≡ Ok tt) × (add_of (add_of a b) c ≡ add_of a (add_of b c))
 added-any-grouping a b c e h =
     let fit = fits-fine a b e in
     let all = rw (added_is a b fit) at (fits-fine (add_of a b) c h) in

@@ -4,8 +4,8 @@ use Rattle.std.specs.Prelude.{ℕ, ◌+◌, Bool, [], ltb, get_or}
 use Rattle.laws.specs.Find.{any}
 use Rattle.laws.specs.Row.{pick, row}
 use Rattle.record.specs.declared.reason.Reason.TheVariants.{TooMany67}
-use Rattle.record.specs.declared.reason.Finding.{Finding}
-use Rattle.record.specs.declared.reason.Finding.TheVariants.{Fine, Broken}
+use Rattle.record.specs.Breaks.{Finding}
+use Rattle.std.specs.Prelude.{Ok, Err}
 use Rattle.record.specs.Table.{file_count}
 use Rattle.judge.specs.Broken.{groups}
 use Rattle.grids.specs.Grid.{Grid}
@@ -28,11 +28,11 @@ plus a b = row (λ i. row (λ g. cell_at a i g + cell_at b i g) groups) file_cou
 
 -- 67, whose place is all zeros
 abbrev pub refused67 : Finding
-refused67 = Broken (record { reason = TooMany67; file = 0; «record» = 0; field = 0 })
+refused67 = Err (record { reason = TooMany67; file = 0; «record» = 0; field = 0 })
 
 -- THE ANSWER of adding b to a,
 unfoldable pub add_finding : Grid → Grid → Finding
-add_finding a b = pick (too_many a b) refused67 Fine
+add_finding a b = pick (too_many a b) refused67 (Ok tt)
 
 -- and what a is then: the sum, or what it was
 unfoldable pub add_of : Grid → Grid → Grid

@@ -15,9 +15,11 @@ use keys::group::tally_keys;
 use objects::group::tally_objects;
 use record::count::{count_fields, count_shape};
 use record::files::file_of;
-use record::kind::{FILES, Kind, Which, kind_of};
+use record::kind::{FILES, Kind, kind_of};
+use std::array;
 
-// How many breaks of its shape a file has, or of its fields.
+// How many breaks of its shape a file has, or of its fields. (Two counts, and one place that asks: a closure's contract would be longer
+// than the two arms.)
 fn count_bytes(shape: bool, k: Kind, s: &[u8]) -> u64
     ensures { result ≡ pick shape (shape_many s.now k) (fields_many s.now k) }
 {
@@ -28,12 +30,12 @@ fn count_bytes(shape: bool, k: Kind, s: &[u8]) -> u64
     }
 }
 
-fn count_bytes_of<'a>(shape: bool, which: Which, files: [&'a [u8]; FILES]) -> u64
+fn count_bytes_of<'a>(shape: bool, which: Option<Kind>, files: [&'a [u8]; FILES]) -> u64
     ensures { result ≡ on_file (λ k. pick shape (shape_many (files_of (map (λ x. x.now) files.entry) k) k) (fields_many (files_of (map (λ x. x.now) files.entry) k) k)) which }
 {
     match which {
-        Which::NoFile => 0,
-        Which::File(k) => count_bytes(shape, k, file_of(files, k)),
+        None => 0,
+        Some(k) => count_bytes(shape, k, file_of(files, k)),
     }
 }
 
@@ -41,27 +43,14 @@ fn count_bytes_of<'a>(shape: bool, which: Which, files: [&'a [u8]; FILES]) -> u6
 fn count_files<'a>(shape: bool, files: [&'a [u8]; FILES]) -> [u64; FILES]
     ensures { result ≡ counted_of (files_of (map (λ x. x.now) files.entry)) (pick shape 1 2) }
 {
-    let mut counts = [0u64; FILES];
-    let mut i = 0;
-    while i < FILES {
-        counts[i] = count_bytes_of(shape, kind_of(i + 1), files);
-        i += 1;
-    }
-    counts
+    array::from_fn(|i| count_bytes_of(shape, kind_of(i + 1), files))
 }
 
 // How many breaks the tallies of the files have.
 fn many_of(tallies: [Tally; FILES]) -> [u64; FILES]
     ensures { result ≡ map (λ t. t.many) tallies }
 {
-    let mut counts = [0u64; FILES];
-    let mut i = 0;
-    while i < FILES {
-        let t = tallies[i];
-        counts[i] = t.many;
-        i += 1;
-    }
-    counts
+    tallies.map(|t| t.many)
 }
 
 // How many breaks of a ten the files have.
@@ -83,14 +72,7 @@ fn count_ten<'a>(t: usize, files: [&'a [u8]; FILES]) -> [u64; FILES]
 fn has_any(counts: [u64; FILES]) -> bool
     ensures { result ≡ any (λ i. ltb 0 (get_or counts i 0)) file_count }
 {
-    let mut i = 0;
-    while i < FILES {
-        if 0 < counts[i] {
-            return true;
-        }
-        i += 1;
-    }
-    false
+    counts.iter().any(|n| 0 < *n)
 }
 
 // The ten of a column, and 0 past the last.
@@ -120,14 +102,10 @@ fn column(t: usize, counts: [u64; FILES]) -> [[u64; GROUPS]; FILES]
     ensures { result ≡ column_of t counts }
 {
     let mut grid = [[0u64; GROUPS]; FILES];
-    let mut i = 0;
-    while i < FILES {
-        let mut g = 0;
-        while g < GROUPS {
+    for i in 0..FILES {
+        for g in 0..GROUPS {
             grid[i][g] = cell_in(t, g, counts[i]);
-            g += 1;
         }
-        i += 1;
     }
     grid
 }
@@ -137,13 +115,11 @@ fn column(t: usize, counts: [u64; FILES]) -> [[u64; GROUPS]; FILES]
 pub fn grid_of<'a>(files: [&'a [u8]; FILES]) -> [[u64; GROUPS]; FILES]
     ensures { result ≡ grid_of (files_of (map (λ x. x.now) files.entry)) }
 {
-    let mut t = 1;
-    while t <= LAST_TEN {
+    for t in 1..=LAST_TEN {
         let counts = count_ten(t, files);
         if has_any(counts) {
             return column(t, counts);
         }
-        t += 1;
     }
     [[0u64; GROUPS]; FILES]
 }

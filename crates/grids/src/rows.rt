@@ -17,7 +17,7 @@ const DIGITS: usize = 10;
 
 pub const ROWS: usize = 528;
 
-// The rows' bytes, or a shorter line's; what lies past it is 0.
+// The rows' bytes, or a shorter line's; what lies past it is 0. (An array with its length, and no Vec: there is no heap.)
 #[derive(Clone, Copy)]
 pub struct Rows {
     pub len: usize,
@@ -48,14 +48,10 @@ pub fn rows_of(grid: [[u64; GROUPS]; FILES]) -> Rows
 {
     let mut bytes = [0u8; ROWS];
     let mut at = 0;
-    let mut i = 0;
-    while i < FILES {
-        let mut g = 0;
-        while g < GROUPS {
+    for i in 0..FILES {
+        for g in 0..GROUPS {
             at = put_count(&mut bytes, at, g, grid[i][g]);
-            g += 1;
         }
-        i += 1;
     }
     Rows { len: ROWS, bytes }
 }
@@ -65,13 +61,8 @@ fn rows_with(file: usize) -> Rows
     ensures { result ≡ rows_in (big_line file) }
 {
     let line = big_line(file);
-    let from = line.bytes;
     let mut bytes = [0u8; ROWS];
-    let mut i = 0;
-    while i < 6 {
-        bytes[i] = from[i];
-        i += 1;
-    }
+    bytes[..6].copy_from_slice(&line.bytes[..6]);
     Rows { len: 6, bytes }
 }
 

@@ -4,7 +4,7 @@ ghost use Rattle.grids.specs.Sum.{most_in_cell, too_many, add_finding, add_of, p
 
 use judge::judge::GROUPS;
 use record::kind::FILES;
-use record::reason::{Break, Finding, Reason};
+use record::reason::{Break, Reason};
 
 // The most that a cell may have.
 pub const MOST: u64 = 9999999999;
@@ -13,40 +13,36 @@ pub const MOST: u64 = 9999999999;
 fn is_over(x: u64, y: u64) -> bool
     ensures { result ≡ ltb most_in_cell (x + y) }
 {
-    if MOST < x { true } else { MOST - x < y }
+    MOST < x || MOST - x < y
 }
 
 // Whether a cell's sum is.
 fn too_many(a: [[u64; GROUPS]; FILES], b: [[u64; GROUPS]; FILES]) -> bool
     ensures { result ≡ too_many a b }
 {
-    let mut i = 0;
-    while i < FILES {
-        let mut g = 0;
-        while g < GROUPS {
+    for i in 0..FILES {
+        for g in 0..GROUPS {
             if is_over(a[i][g], b[i][g]) {
                 return true;
             }
-            g += 1;
         }
-        i += 1;
     }
     false
 }
 
 // Whether the grids can be added: 67 where they can't.
-pub fn add_finding(a: [[u64; GROUPS]; FILES], b: [[u64; GROUPS]; FILES]) -> Finding
+pub fn add_finding(a: [[u64; GROUPS]; FILES], b: [[u64; GROUPS]; FILES]) -> Result<(), Break>
     ensures { result ≡ add_finding a b }
 {
     if too_many(a, b) {
-        return Finding::Broken(Break {
+        return Err(Break {
             reason: Reason::TooMany67,
             file: 0,
             record: 0,
             field: 0,
         });
     }
-    Finding::Fine
+    Ok(())
 }
 
 // The sum of two grids that can be added.
@@ -55,14 +51,10 @@ fn sum_of(a: [[u64; GROUPS]; FILES], b: [[u64; GROUPS]; FILES]) -> [[u64; GROUPS
     ensures { result ≡ plus a b }
 {
     let mut sum = [[0u64; GROUPS]; FILES];
-    let mut i = 0;
-    while i < FILES {
-        let mut g = 0;
-        while g < GROUPS {
+    for i in 0..FILES {
+        for g in 0..GROUPS {
             sum[i][g] = a[i][g] + b[i][g];
-            g += 1;
         }
-        i += 1;
     }
     sum
 }

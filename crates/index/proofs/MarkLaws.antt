@@ -1,16 +1,20 @@
 -- The laws of marks (specs/Marks.antt): a loop that fills them, and what is read off them.
 -- Assumes nothing.
-use Prim.Native.Nat.{ℕ, ◌+◌, ◌<◌, ◌≤◌}
+use Prim.Native.Nat.{ℕ, zero, suc, ◌+◌, ◌<◌, ◌≤◌}
 use mathlib.Core.Bool.{Bool, true, false}
 use mathlib.Core.List.{List}
-use mathlib.Core.Path.{◌≡◌, refl, ap, ◌∙◌}
+use mathlib.Core.Path.{◌≡◌, refl, sym, ap, ◌∙◌}
+use native.Mathlib.Nat.{add-zero}
 use native.Mathlib.Omega.{arith}
 use lib.Dec.{eqb}
-use lib.ListN.{length, get_or, set, length-set}
+use lib.ListN.{length, get_or, set, take, length-set}
 use lib.Seq.{get_or-set_same, get_or-set_other}
 use borrow.Author.Count.{below_none, below_more}
 use Rattle.laws.specs.Find.{first_index}
-use Rattle.laws.specs.Count.{bit}
+use Rattle.std.specs.List.{count_by}
+use Rattle.std.proofs.Common.{add-one}
+use Rattle.std.proofs.lemmas.List.Sums.{count_by_more_yes, count_by_more_no}
+use Rattle.laws.specs.Count.{bit, how_many}
 use Rattle.laws.proofs.FindLaws.{index_same}
 use Rattle.index.specs.Marks.{Marked, is_marked}
 
@@ -54,3 +58,15 @@ marked-at {test} {i} s l = ap (λ (x : ℕ). eqb x 1) (s.says i l) ∙ bit_is (t
 pub marked-first : {before marks : List ℕ} {test : ℕ → Bool} {n : ℕ} → Marked before marks test n → first_index (is_marked marks) n ≡ first_index test n
 marked-first {before} {marks} {test} {n} s =
     index_same (is_marked marks) test n (λ i l. marked-at s l)
+
+-- HOW MANY are marked, as the library counts them in a list
+count_one :
+    (marks : List ℕ) (n : ℕ) (t : Bool) → n < length marks → is_marked marks n ≡ t → count_by (λ m. eqb m 1) (take n marks) ≡ how_many (is_marked marks) n
+    → count_by (λ m. eqb m 1) (take (n + 1) marks) ≡ how_many (is_marked marks) n + bit t
+count_one marks n true l e rest = count_by_more_yes (λ m. eqb m 1) marks n 0 l e ∙ ap (λ (k : ℕ). k + 1) rest
+count_one marks n false l e rest = count_by_more_no (λ m. eqb m 1) marks n 0 l e ∙ rest ∙ sym (add-zero _)
+
+pub count-marked : (marks : List ℕ) (n : ℕ) → n ≤ length marks → count_by (λ m. eqb m 1) (take n marks) ≡ how_many (is_marked marks) n
+unfolding how_many
+count-marked marks zero l = refl
+count-marked marks (suc n) l = rw (← add-one n) (count_one marks n (is_marked marks n) (omega arith) refl (count-marked marks n (omega arith)))

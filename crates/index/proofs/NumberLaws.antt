@@ -19,22 +19,21 @@ use Rattle.index.specs.Keys.{listed, first_duplicate, room}
 use Rattle.index.specs.Look.{Sought}
 use Rattle.index.specs.Marks.{Marked}
 use Rattle.index.specs.Way.{look_of, or_zero, Stands}
-use Rattle.index.specs.declared.Found.{Found}
-use Rattle.index.specs.declared.Found.TheVariants.{At, Nothing}
+use Rattle.std.specs.Prelude.{Option, Some, None}
 use Rattle.index.proofs.MarkLaws.{marked-as}
 use Rattle.index.proofs.OrderLaws.{same_or}
 
 -- THE NUMBER of key e is the record that a look-up of the key finds
 pub record Numbered (keys order hints : List ℕ) (t : Bool) (n : ℕ) (e x : ℕ) : Type 0 where
   pub within : x < n
-  pub found : look_of keys order hints t n (get_or keys e 0) ≡ At x
+  pub found : look_of keys order hints t n (get_or keys e 0) ≡ Some x
   pub own : get_or keys x 0 ≡ get_or keys e 0
 
-numbered : (keys order hints : List ℕ) (t : Bool) (n e : ℕ) (f : Found) → e < n → Sought keys n (get_or keys e 0) f
+numbered : (keys order hints : List ℕ) (t : Bool) (n e : ℕ) (f : Option ℕ) → e < n → Sought keys n (get_or keys e 0) f
     → f ≡ look_of keys order hints t n (get_or keys e 0) → Numbered keys order hints t n e (or_zero f)
 unfolding Sought
-numbered keys order hints t n e Nothing l s q = absurd (s e l refl)
-numbered keys order hints t n e (At r) l s q = record { within = s.0; found = sym q; own = s.1 }
+numbered keys order hints t n e None l s q = absurd (s e l refl)
+numbered keys order hints t n e (Some r) l s q = record { within = s.0; found = sym q; own = s.1 }
 
 -- a loop's: the first i have their numbers
 pub record Numbers (keys order hints : List ℕ) (t : Bool) (n : ℕ) (out : List ℕ) (i : ℕ) : Type 0 where
@@ -45,7 +44,7 @@ module _ {keys order hints : List ℕ} {t : Bool} {n : ℕ} where
   numbers-start out = record { each = below_none _ }
 
   pub numbers_more :
-      {out : List ℕ} {i x : ℕ} (f : Found) → i < n → i < length out → Numbers keys order hints t n out i → Sought keys n (get_or keys i 0) f
+      {out : List ℕ} {i x : ℕ} (f : Option ℕ) → i < n → i < length out → Numbers keys order hints t n out i → Sought keys n (get_or keys i 0) f
       → f ≡ look_of keys order hints t n (get_or keys i 0) → x ≡ or_zero f → Numbers keys order hints t n (set out i x) (i + 1)
   numbers_more {out} {i} {x} f l fits all s q v =
       record {
@@ -62,7 +61,7 @@ module _ {keys order hints : List ℕ} {t : Bool} {n : ℕ} where
     where
       equal : get_or keys a 0 ≡ get_or keys b 0 → eqb x y ≡ eqb (get_or keys a 0) (get_or keys b 0)
       equal e =
-          let f : At x ≡ At y = sym p.found ∙ ap (look_of keys order hints t n) e ∙ q.found in
+          let f : Some x ≡ Some y = sym p.found ∙ ap (look_of keys order hints t n) e ∙ q.found in
           eq-eqb _ _ (ap or_zero f) ∙ sym (eq-eqb _ _ e)
 
       other : (get_or keys a 0 ≡ get_or keys b 0 → ⊥) → eqb x y ≡ eqb (get_or keys a 0) (get_or keys b 0)
@@ -101,7 +100,7 @@ module _ (keys order hints : List ℕ) (t : Bool) (n : ℕ) where
   unfolding any
   seen_start = record { each = below_none _; long = length-replicate {A = ℕ} room 0; at = λ x l. get_or-replicate room x 0 0 l }
 
-  module _ {i : ℕ} (l : i < n) (small : n ≤ room) (f : Found) (s : Sought keys n (get_or keys i 0) f) (q : f ≡ look_of keys order hints t n (get_or keys i 0)) {x : ℕ} (v : x ≡ or_zero f) where
+  module _ {i : ℕ} (l : i < n) (small : n ≤ room) (f : Option ℕ) (s : Sought keys n (get_or keys i 0) f) (q : f ≡ look_of keys order hints t n (get_or keys i 0)) {x : ℕ} (v : x ≡ or_zero f) where
     own : Numbered keys order hints t n i x
     own = rw v (numbered keys order hints t n i f l s q)
 

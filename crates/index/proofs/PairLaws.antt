@@ -15,8 +15,7 @@ use Rattle.index.specs.Keys.{room}
 use Rattle.index.specs.Look.{Sought}
 use Rattle.index.specs.Way.{Stands}
 use Rattle.index.specs.Pairs.{wide, Joined, Pairs, PairIs}
-use Rattle.index.specs.declared.Found.{Found}
-use Rattle.index.specs.declared.Found.TheVariants.{At, Nothing}
+use Rattle.std.specs.Prelude.{Option, Some, None}
 use Rattle.index.proofs.LookLaws.{pair_same}
 use Rattle.index.proofs.OrderLaws.{less-or}
 
@@ -85,23 +84,23 @@ pub no-pair : {firsts seconds out : List ℕ} {n : ℕ} (j : ℕ) → Pairs firs
 no-pair {out = out} j p l = let h = p.small j l in ne_eqb (get_or out j 0) no_pair (λ (e : get_or out j 0 ≡ no_pair). omega arith)
 
 pub pair-nowhere :
-    {firsts seconds out : List ℕ} {n x y : ℕ} {f : Found} → Pairs firsts seconds out n → Sought firsts n x f → f ≡ Nothing
+    {firsts seconds out : List ℕ} {n x y : ℕ} {f : Option ℕ} → Pairs firsts seconds out n → Sought firsts n x f → f ≡ None
     → PairIs firsts seconds out n x y no_pair
 unfolding Sought
 pair-nowhere {firsts} {seconds} {n = n} {x} {y} p s e =
-    let h = subst (λ (f : Found). Sought firsts n x f) e s in
+    let h = subst (λ (f : Option ℕ). Sought firsts n x f) e s in
     record { each = λ k l. no-pair k p l ∙ sym (ap (λ (t : Bool). t && eqb (get_or seconds k 0) y) (ne_eqb (get_or firsts k 0) x (h k l))) }
 
 -- and else that of the record found, with the second part in its place
 pub pair_found :
-    {firsts seconds out : List ℕ} {n x y j : ℕ} {f : Found} → Pairs firsts seconds out n → y < wide → Sought firsts n x f → f ≡ At j
+    {firsts seconds out : List ℕ} {n x y j : ℕ} {f : Option ℕ} → Pairs firsts seconds out n → y < wide → Sought firsts n x f → f ≡ Some j
     → PairIs firsts seconds out n x y (get_or out j 0 / wide * wide + y)
 unfolding Sought
 pair_found {firsts} {seconds} {n = n} {x} {y} {j} p ly s e =
-    let h = subst (λ (f : Found). Sought firsts n x f) e s in
+    let h = subst (λ (f : Option ℕ). Sought firsts n x f) e s in
     record { each = λ k l. p.same k j y l h.0 ly ∙ ap (λ (z : ℕ). eqb (get_or firsts k 0) z && eqb (get_or seconds k 0) y) h.1 }
 
 -- the found record is one of n
-pub found_within : (keys : List ℕ) (n x : ℕ) {f : Found} {j : ℕ} → Sought keys n x f → f ≡ At j → j < n
+pub found_within : (keys : List ℕ) (n x : ℕ) {f : Option ℕ} {j : ℕ} → Sought keys n x f → f ≡ Some j → j < n
 unfolding Sought
-found_within keys n x s e = (subst (λ (f : Found). Sought keys n x f) e s).0
+found_within keys n x s e = (subst (λ (f : Option ℕ). Sought keys n x f) e s).0

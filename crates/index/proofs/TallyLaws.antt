@@ -2,12 +2,10 @@
 -- tells of the first record.
 -- Assumes nothing.
 use Prim.Native.Nat.{ℕ, zero, suc, ◌+◌, ◌-◌, ◌*◌, ◌<◌, ◌≤◌}
-use mathlib.Core.Bool.{Bool, true, false, ◌&&◌}
+use mathlib.Core.Bool.{Bool, false}
 use mathlib.Core.List.{List}
 use mathlib.Core.Path.{◌≡◌, refl, sym, ap, ◌∙◌}
 use native.Mathlib.Omega.{arith}
-use lib.Dec.{leb}
-use Rattle.laws.specs.Row.{pick}
 use Rattle.laws.specs.Find.{first_index}
 use Rattle.laws.specs.Count.{how_many}
 use Rattle.laws.proofs.FindLaws.{index-none}
@@ -15,8 +13,7 @@ use Rattle.laws.proofs.CountLaws.{count_none, count_same, count_most}
 use Rattle.index.specs.Keys.{found_of}
 use Rattle.index.specs.Marks.{Marked, is_marked}
 use Rattle.index.specs.Tally.{no_tally, with_cell, tally_of}
-use Rattle.index.specs.declared.Found.{Found}
-use Rattle.index.specs.declared.Found.TheVariants.{At, Nothing}
+use Rattle.std.specs.Prelude.{Option}
 use Rattle.index.specs.declared.tally.Tally.{Tally}
 use Rattle.index.proofs.MarkLaws.{marked-at, marked-first}
 
@@ -25,15 +22,10 @@ pub marked-many : {before marks : List ℕ} {test : ℕ → Bool} {n : ℕ} → 
 marked-many {before} {marks} {test} {n} s = count_same (is_marked marks) test n (λ i l. marked-at s l)
 
 -- A TALLY: of no cell, of one more,
-either-many : (b : Bool) (x y : Tally) {m : ℕ} → x.many ≡ m → y.many ≡ m → (pick b x y).many ≡ m
-either-many true x y e h = e
-either-many false x y e h = h
+pub with-many : (t : Tally) (f : Option ℕ) (m c : ℕ) → (with_cell t f m c).many ≡ t.many + m
+with-many t f m c = refl
 
-pub with-many : (t : Tally) (f : Found) (m c : ℕ) → (with_cell t f m c).many ≡ t.many + m
-with-many t Nothing m c = refl
-with-many t (At i) m c = either-many (t.found && leb t.at i) _ _ refl refl
-
-with_none : (t : Tally) → record { found = t.found; at = t.at; cell = t.cell; many = t.many + 0 } ≡ t
+with_none : (t : Tally) → record { first = t.first; many = t.many + 0 } ≡ t
 with_none t = let e : t.many + 0 ≡ t.many = omega arith in rw e refl
 
 module _ (test : ℕ → ℕ → Bool) (n : ℕ) where
@@ -42,7 +34,7 @@ module _ (test : ℕ → ℕ → Bool) (n : ℕ) where
   tally-start = refl
 
   pub tally-more :
-      (c : ℕ) {t t' : Tally} {m : ℕ} {f : Found} → t ≡ tally_of test n c → f ≡ found_of (first_index (λ i. test i c) n) → m ≡ how_many (λ i. test i c) n
+      (c : ℕ) {t t' : Tally} {m : ℕ} {f : Option ℕ} → t ≡ tally_of test n c → f ≡ found_of (first_index (λ i. test i c) n) → m ≡ how_many (λ i. test i c) n
       → t' ≡ with_cell t f m c → t' ≡ tally_of test n (suc c)
   unfolding tally_of
   tally-more c e h q w = rw (w, e, h, q)

@@ -17,9 +17,8 @@ use Rattle.index.specs.Keys.{listed, first_duplicate, room}
 use Rattle.index.specs.Order.{key_at, Index}
 use Rattle.index.specs.Look.{Bracket, Sought}
 use Rattle.index.specs.Hint.{guess_of, Guessed}
-use Rattle.index.specs.Way.{upto_of, last_at, find_of, is_found, Complete, look_of, Ready}
-use Rattle.index.specs.declared.Found.{Found}
-use Rattle.index.specs.declared.Found.TheVariants.{At, Nothing}
+use Rattle.index.specs.Way.{upto_of, last_at, find_of, Complete, look_of, Ready}
+use Rattle.std.specs.Prelude.{Option, Some, None, is_some}
 use Rattle.index.specs.declared.way.Way.{Way}
 use Rattle.index.proofs.HintLaws.{Laid, laid-at, guessed-record}
 
@@ -38,39 +37,39 @@ bracket-upto {keys} {order} {n} {limit} {c} b =
     none_before : first_index over c ≡ none
     none_before = index-none over c (λ i l. le-ltb limit (key_at keys order i) (b.low i l))
 
-pub last-at-none : (order : List ℕ) {c u : ℕ} → c ≡ u → c ≡ 0 → Nothing ≡ last_at order u
+pub last-at-none : (order : List ℕ) {c u : ℕ} → c ≡ u → c ≡ 0 → None ≡ last_at order u
 unfolding last_at
 last-at-none order {c} e z = rw (← e, z)
 
-pub last-at-some : (order : List ℕ) {c u : ℕ} → c ≡ u → (c ≡ 0 → ⊥) → At (get_or order (c - 1) 0) ≡ last_at order u
+pub last-at-some : (order : List ℕ) {c u : ℕ} → c ≡ u → (c ≡ 0 → ⊥) → Some (get_or order (c - 1) 0) ≡ last_at order u
 unfolding last_at
 last-at-some order {c} e nz = rw (← e, ne_eqb c 0 nz)
 
-module _ (keys order : List ℕ) (n x : ℕ) {f : Found} (same : f ≡ last_at order (upto_of keys order n x)) where
-  pub find-nothing : f ≡ Nothing → Nothing ≡ find_of keys order n x
+module _ (keys order : List ℕ) (n x : ℕ) {f : Option ℕ} (same : f ≡ last_at order (upto_of keys order n x)) where
+  pub find-nothing : f ≡ None → None ≡ find_of keys order n x
   unfolding find_of
   find-nothing e = rw (← same, e)
 
-  pub find_at : {r : ℕ} → f ≡ At r → get_or keys r 0 ≡ x → At r ≡ find_of keys order n x
+  pub find_at : {r : ℕ} → f ≡ Some r → get_or keys r 0 ≡ x → Some r ≡ find_of keys order n x
   unfolding find_of
   find_at {r} e q = rw (← same, e, eq-eqb (get_or keys r 0) x q)
 
-  pub find-other : {r : ℕ} → f ≡ At r → (get_or keys r 0 ≡ x → ⊥) → Nothing ≡ find_of keys order n x
+  pub find-other : {r : ℕ} → f ≡ Some r → (get_or keys r 0 ≡ x → ⊥) → None ≡ find_of keys order n x
   unfolding find_of
   find-other {r} e q = rw (← same, e, ne_eqb (get_or keys r 0) x q)
 
 -- HINTS: where a table was filled and each key has its place, each is found
 pub laid-complete : {keys hints : List ℕ} {n i : ℕ} {apart : Bool} → Laid keys hints n i apart → n ≤ i → n ≤ length keys → Complete keys hints n
 unfolding Complete
-laid-complete m end fits j l = ap is_found (laid-at m end fits j l).1
+laid-complete m end fits j l = ap is_some (laid-at m end fits j l).1
 
 -- then a guess finds what is there
 pub guess-sought :
-    (keys hints : List ℕ) (n x : ℕ) (f : Found) → Complete keys hints n → Guessed keys n x f → f ≡ guess_of keys hints n x → Sought keys n x f
+    (keys hints : List ℕ) (n x : ℕ) (f : Option ℕ) → Complete keys hints n → Guessed keys n x f → f ≡ guess_of keys hints n x → Sought keys n x f
 unfolding Complete Sought
-guess-sought keys hints n x Nothing all g e =
-    λ k l q. true-false (sym (all k l) ∙ ap (λ (y : ℕ). is_found (guess_of keys hints n y)) q ∙ ap is_found (sym e))
-guess-sought keys hints n x (At r) all g e = guessed-record keys n x g refl
+guess-sought keys hints n x None all g e =
+    λ k l q. true-false (sym (all k l) ∙ ap (λ (y : ℕ). is_some (guess_of keys hints n y)) q ∙ ap is_some (sym e))
+guess-sought keys hints n x (Some r) all g e = guessed-record keys n x g refl
 
 -- A WAY, by hints,
 module _ (keys order hints : List ℕ) {n : ℕ} (small : n ≤ room) (fits : n ≤ length keys) where
@@ -82,7 +81,7 @@ module _ (keys order hints : List ℕ) {n : ℕ} (small : n ≤ room) (fits : n 
   way-sorted ix d = record { small = small; keys-room = fits; hinted = λ e. absurd (true-false (sym e)); sorted = λ e. ix; apart = d }
 
 -- and what a look-up gives by it
-module _ (keys order hints : List ℕ) (n x : ℕ) {t : Bool} {f : Found} where
+module _ (keys order hints : List ℕ) (n x : ℕ) {t : Bool} {f : Option ℕ} where
   pub look-hinted : t ≡ true → f ≡ guess_of keys hints n x → f ≡ look_of keys order hints t n x
   unfolding look_of
   look-hinted e q = rw e q

@@ -1,41 +1,35 @@
 -- Machinery: look-ups that are exact: by hints alone, where they are shown to find every key, or by halving; and numbers that stand for
 -- keys, the same for equal keys and others for others.
 -- Assumes nothing.
-use Rattle.std.specs.Prelude.{ℕ, ◌-◌, ◌<◌, ◌≤◌, Bool, true, false, List, ◌≡◌, eqb, ltb, length, get_or}
+use Rattle.std.specs.Prelude.{ℕ, ◌-◌, ◌<◌, ◌≤◌, Bool, true, false, List, ◌≡◌, eqb, ltb, length, get_or, Option, Some, None, is_some, unwrap_or}
 use Rattle.std.proofs.Math.Option.{none}
 use Rattle.laws.specs.Row.{pick}
 use Rattle.laws.specs.Find.{first_index, or_end}
 use Rattle.index.specs.Keys.{listed, first_duplicate, room}
 use Rattle.index.specs.Order.{key_at, Index}
 use Rattle.index.specs.Hint.{guess_of}
-use Rattle.index.specs.declared.Found.{Found}
-use Rattle.index.specs.declared.Found.TheVariants.{At, Nothing}
 use Rattle.index.specs.declared.way.Way.{Way}
 
 -- BY HALVING: how many places of an index have a key up to the limit; the record at the last of them; and that record where its key is x
 unfoldable pub upto_of : List ℕ → List ℕ → ℕ → ℕ → ℕ
 upto_of keys order n limit = or_end n (first_index (λ i. ltb limit (key_at keys order i)) n)
 
-unfoldable pub last_at : List ℕ → ℕ → Found
-last_at order c = pick (eqb c 0) Nothing (At (get_or order (c - 1) 0))
+unfoldable pub last_at : List ℕ → ℕ → Option ℕ
+last_at order c = pick (eqb c 0) None (Some (get_or order (c - 1) 0))
 
-abbrev pub keyed : List ℕ → ℕ → Found → Found
-keyed keys x Nothing = Nothing
-keyed keys x (At r) = pick (eqb (get_or keys r 0) x) (At r) Nothing
+abbrev pub keyed : List ℕ → ℕ → Option ℕ → Option ℕ
+keyed keys x None = None
+keyed keys x (Some r) = pick (eqb (get_or keys r 0) x) (Some r) None
 
-unfoldable pub find_of : List ℕ → List ℕ → ℕ → ℕ → Found
+unfoldable pub find_of : List ℕ → List ℕ → ℕ → ℕ → Option ℕ
 find_of keys order n x = keyed keys x (last_at order (upto_of keys order n x))
 
 -- BY HINTS: the look-up of each of the first n keys finds a record
-abbrev pub is_found : Found → Bool
-is_found Nothing = false
-is_found (At r) = true
-
 unfoldable pub Complete : List ℕ → List ℕ → ℕ → Type 0
-Complete keys hints n = (i : ℕ) → i < n → is_found (guess_of keys hints n (get_or keys i 0)) ≡ true
+Complete keys hints n = (i : ℕ) → i < n → is_some (guess_of keys hints n (get_or keys i 0)) ≡ true
 
 -- EITHER WAY
-unfoldable pub look_of : List ℕ → List ℕ → List ℕ → Bool → ℕ → ℕ → Found
+unfoldable pub look_of : List ℕ → List ℕ → List ℕ → Bool → ℕ → ℕ → Option ℕ
 look_of keys order hints hinted n x = pick hinted (guess_of keys hints n x) (find_of keys order n x)
 
 -- what a way of looking up the first n keys stands on; where it says that they are apart, no two are equal
@@ -47,9 +41,8 @@ pub record Ready (keys order hints : List ℕ) (n : ℕ) (way : Way) : Type 0 wh
   pub apart : way.apart ≡ true → first_duplicate (listed keys) n ≡ none
 
 -- a found record as a number, 0 where there is none
-abbrev pub or_zero : Found → ℕ
-or_zero Nothing = 0
-or_zero (At r) = r
+abbrev pub or_zero : Option ℕ → ℕ
+or_zero found = unwrap_or found 0
 
 -- NUMBERS THAT STAND FOR KEYS: each is a record's with that key, and equal keys have one
 pub record Stands (keys out : List ℕ) (n : ℕ) : Type 0 where

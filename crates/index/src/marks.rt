@@ -5,13 +5,11 @@ ghost use Rattle.laws.specs.Count.{bit};
 ghost use Rattle.index.specs.Keys.{found_of};
 ghost use Rattle.index.specs.Marks.{Marked, is_marked};
 
-use crate::Found;
-
 // A test's answer as a mark.
 pub fn as_mark(test: bool) -> u8
     ensures { result ≡ bit test }
 {
-    if test { 1 } else { 0 }
+    u8::from(test)
 }
 
 // No record is marked.
@@ -19,24 +17,13 @@ pub fn clear(marks: &mut [u8], n: usize)
     requires { n ≤ length marks.old }
     ensures { Marked marks.old marks.new (λ i. false) n }
 {
-    let mut i = 0;
-    while i < n {
-        marks[i] = 0;
-        i += 1;
-    }
+    marks[..n].fill(0);
 }
 
 // The first record that is marked.
-pub fn first_marked(marks: &[u8], n: usize) -> Found
+pub fn first_marked(marks: &[u8], n: usize) -> Option<usize>
     requires { n ≤ length marks.now }
     ensures { result ≡ found_of (first_index (is_marked marks.now) n) }
 {
-    let mut i = 0;
-    while i < n {
-        if marks[i] == 1 {
-            return Found::At(i);
-        }
-        i += 1;
-    }
-    Found::Nothing
+    marks[..n].iter().position(|m| *m == 1)
 }

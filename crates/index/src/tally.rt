@@ -5,16 +5,20 @@ ghost use Rattle.laws.specs.Find.{first_index};
 ghost use Rattle.laws.specs.Count.{bit, how_many};
 ghost use Rattle.index.specs.Keys.{found_of};
 ghost use Rattle.index.specs.Marks.{is_marked};
-ghost use Rattle.index.specs.Tally.{no_tally, with_cell};
+ghost use Rattle.index.specs.Tally.{no_tally, earlier, with_cell};
 
-use crate::Found;
 use crate::marks::first_marked;
+
+// The first record that breaks a rule, and the cell.
+#[derive(Clone, Copy)]
+pub struct First {
+    pub at: usize,
+    pub cell: usize,
+}
 
 #[derive(Clone, Copy)]
 pub struct Tally {
-    pub found: bool,
-    pub at: usize,
-    pub cell: usize,
+    pub first: Option<First>,
     pub many: u64,
 }
 
@@ -23,19 +27,9 @@ pub fn no_tally() -> Tally
     ensures { result ≡ no_tally }
 {
     Tally {
-        found: false,
-        at: 0,
-        cell: 0,
+        first: None,
         many: 0,
     }
-}
-
-// 1 where a test holds, else 0.
-fn one_if(test: bool) -> u64
-    ensures value { result ≡ bit test }
-    ensures most { result ≤ 1 }
-{
-    if test { 1 } else { 0 }
 }
 
 // How many records are marked.
@@ -44,45 +38,28 @@ pub fn count_marked(marks: &[u8], n: usize) -> u64
     ensures value { result ≡ how_many (is_marked marks.now) n }
     ensures most { result ≤ n }
 {
-    let mut many: u64 = 0;
-    let mut i = 0;
-    while i < n {
-        many += one_if(marks[i] == 1);
-        i += 1;
+    marks[..n].iter().filter(|m| **m == 1).count() as u64
+}
+
+// The earlier of the first record of the cells so far and the first of one cell more.
+fn earlier(first: Option<First>, found: Option<usize>, cell: usize) -> Option<First>
+    ensures { result ≡ earlier first found cell }
+{
+    match (first, found) {
+        (_, None) => first,
+        (Some(f), Some(at)) if f.at <= at => first,
+        (_, Some(at)) => Some(First { at, cell }),
     }
-    many
 }
 
 // One cell more: its first record, and how many it has. Of two first records the lower, and of equals the earlier cell's.
-pub fn with_cell(t: Tally, found: Found, many: u64, cell: usize) -> Tally
+pub fn with_cell(t: Tally, found: Option<usize>, many: u64, cell: usize) -> Tally
     requires { (t.many ≤ 4294967296) × (many ≤ 4294967296) }
     ensures { result ≡ with_cell t found many cell }
 {
-    let all = t.many + many;
-    match found {
-        Found::Nothing => Tally {
-            found: t.found,
-            at: t.at,
-            cell: t.cell,
-            many: all,
-        },
-        Found::At(i) => {
-            if t.found & (t.at <= i) {
-                Tally {
-                    found: t.found,
-                    at: t.at,
-                    cell: t.cell,
-                    many: all,
-                }
-            } else {
-                Tally {
-                    found: true,
-                    at: i,
-                    cell,
-                    many: all,
-                }
-            }
-        }
+    Tally {
+        first: earlier(t.first, found, cell),
+        many: t.many + many,
     }
 }
 

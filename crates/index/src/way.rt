@@ -5,8 +5,8 @@ ghost use Rattle.laws.specs.Find.{names};
 ghost use Rattle.index.specs.Keys.{listed, room};
 ghost use Rattle.index.specs.Look.{Sought};
 ghost use Rattle.index.specs.Way.{look_of, Ready};
+ghost use Rattle.index.specs.Props.{Ready-prop};
 
-use crate::Found;
 use crate::hint::{fill_hints, guess};
 use crate::look::find;
 use crate::order::sort;
@@ -20,7 +20,7 @@ pub struct Way {
 }
 
 // A way to look up the first `n` keys, with a table of hints and an order in lent room; the order is sorted where hints don't do.
-pub fn prepare(keys: &[u64], n: usize, hints: &mut [u16], order: &mut [usize]) -> Way
+fn prepare(keys: &[u64], n: usize, hints: &mut [u16], order: &mut [usize]) -> Way
     requires { (n ≤ room) × (n ≤ length keys.now) × (n ≤ length order.old) }
     ensures { Ready keys.now order.new hints.new n result }
 {
@@ -35,42 +35,67 @@ pub fn prepare(keys: &[u64], n: usize, hints: &mut [u16], order: &mut [usize]) -
     }
 }
 
-// A record with the key `x`, for each `x` always the same.
-pub fn look<'a>(
-    keys: &'a [u64],
-    order: &'a [usize],
-    hints: &'a [u16],
-    way: Way,
-    n: usize,
-    x: u64,
-) -> Found
-    requires { Ready keys.now order.now hints.now n way }
-    ensures sought { Sought keys.now n x result }
-    ensures same { result ≡ look_of keys.now order.now hints.now way.hinted n x }
-{
-    if way.hinted {
-        guess(keys, hints, n, x)
-    } else {
-        find(keys, order, n, x)
-    }
+// What the first `n` keys of a column are looked up by: a table of hints and an order, in lent room, and which of the two does.
+#[derive(Clone, Copy)]
+pub struct Lookup<'a> {
+    pub keys: &'a [u64],
+    pub order: &'a [usize],
+    pub hints: &'a [u16],
+    pub way: Way,
+    pub n: usize,
+    pub ghost ready: { Ready keys.now order.now hints.now n way } by { Ready-prop keys.now order.now hints.now n way },
 }
 
-// Whether a record has the key `x`.
-pub fn is_there<'a>(
-    keys: &'a [u64],
-    order: &'a [usize],
-    hints: &'a [u16],
-    way: Way,
-    n: usize,
-    x: u64,
-) -> bool
-    requires { Ready keys.now order.now hints.now n way }
-    ensures { result ≡ names (listed keys.now) n x }
-{
-    let found = look(keys, order, hints, way, n, x);
-    if let Found::At(_) = found {
-        true
-    } else {
-        false
+impl<'a> Lookup<'a> {
+    // Of the first `n` keys; the order is sorted where hints don't do.
+    pub fn prepare(keys: &'a [u64], n: usize, hints: &'a mut [u16], order: &'a mut [usize]) -> Self
+        requires { (n ≤ room) × (n ≤ length keys.now) × (n ≤ length order.old) }
+        ensures keys { result.keys.now ≡ keys.now }
+        ensures n { result.n ≡ n }
+    {
+        let way = prepare(keys, n, hints, order);
+        Lookup {
+            keys,
+            order,
+            hints,
+            way,
+            n,
+        }
+    }
+
+    // Of no keys.
+    pub fn of_none(keys: &'a [u64], hints: &'a [u16], order: &'a [usize]) -> Self
+        ensures { result.n ≡ 0 }
+    {
+        let way = Way {
+            hinted: true,
+            apart: true,
+        };
+        Lookup {
+            keys,
+            order,
+            hints,
+            way,
+            n: 0,
+        }
+    }
+
+    // A record with the key `x`, for each `x` always the same.
+    pub fn look(&self, x: u64) -> Option<usize>
+        ensures sought { Sought self.now.keys.now self.now.n x result }
+        ensures same { result ≡ look_of self.now.keys.now self.now.order.now self.now.hints.now self.now.way.hinted self.now.n x }
+    {
+        if self.way.hinted {
+            guess(self.keys, self.hints, self.n, x)
+        } else {
+            find(self.keys, self.order, self.n, x)
+        }
+    }
+
+    // Whether a record has the key `x`.
+    pub fn is_there(&self, x: u64) -> bool
+        ensures { result ≡ names (listed self.now.keys.now) self.now.n x }
+    {
+        self.look(x).is_some()
     }
 }

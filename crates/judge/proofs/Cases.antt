@@ -9,7 +9,7 @@ use Rattle.laws.specs.Row.{row, each}
 use Rattle.field.specs.Bytes.{all_of}
 use Rattle.field.specs.Digits.{digits_number, number_written}
 use Rattle.field.specs.Texts.{padded, trim_to, trimmed, edged_by, lawful_text, first_bytes, not_given, base256, word_of}
-use Rattle.record.specs.declared.reason.Finding.TheVariants.{Fine}
+use Rattle.std.specs.Prelude.{Ok}
 use Rattle.record.specs.Table.{col_at, form_at, width_at, must_at, back_at, ahead_at, domain_at, own_at, offset_at, which_of, target_of}
 use Rattle.record.specs.Files.{files_of}
 use Rattle.record.specs.Cut.{count_of, record_of, text_of}
@@ -47,7 +47,7 @@ unfolding
 cases = refl
 
 -- NO FILES: nothing is broken
-pub no-files : judged (files_of []) ≡ Fine
+pub no-files : judged (files_of []) ≡ Ok tt
 unfolding
     first_of run which_of files_of count_of breaks10 breaks11
     said_tests tests_of reason_of breaks_in breaks_of breaks judged

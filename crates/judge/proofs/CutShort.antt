@@ -14,8 +14,8 @@ use borrow.Author.Tests.{ltb-true, ltb-false, lt-ltb}
 use Rattle.laws.specs.Find.{first_index}
 use Rattle.laws.proofs.FindLaws.{true-false, index_same, index-none-at, index-some-at}
 use Rattle.record.specs.declared.kind.Kind.{Kind}
-use Rattle.record.specs.declared.kind.Which.{Which}
-use Rattle.record.specs.declared.kind.Which.TheVariants.{NoFile, File}
+use Rattle.record.specs.Table.{Which}
+use Rattle.std.specs.Prelude.{None, Some}
 use Rattle.record.specs.Table.{which_of, file_count}
 use Rattle.record.specs.Files.{Files}
 use Rattle.record.proofs.TableLaws.{sane, which-file}
@@ -33,8 +33,8 @@ passes_same n s = go (ltb n (length s)) refl
 
 module _ (files cut : Files) (h : (k : Kind) → cut k ≡ take (big + 1) (files k)) where
   big-same : (w : Which) → is_big cut w ≡ is_big files w
-  big-same NoFile = refl
-  big-same (File k) = ap (λ (s : List ℕ). ltb big (length s)) (h k) ∙ passes_same big (files k)
+  big-same None = refl
+  big-same (Some k) = ap (λ (s : List ℕ). ltb big (length s)) (h k) ∙ passes_same big (files k)
 
   first-big-same : big_of cut ≡ big_of files
   unfolding big_of

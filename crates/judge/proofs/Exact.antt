@@ -20,12 +20,12 @@ use Rattle.laws.proofs.NestLaws.{at, at-within, at-node, at_leaf, run_none, run-
 use Rattle.laws.proofs.GridLaws.{at_here, before-under, before-one, one-before}
 use Rattle.laws.proofs.RowLaws.{and-true}
 use Rattle.record.specs.declared.kind.Kind.{Kind}
-use Rattle.record.specs.declared.kind.Which.{Which}
-use Rattle.record.specs.declared.kind.Which.TheVariants.{NoFile, File}
+use Rattle.record.specs.Table.{Which}
+use Rattle.std.specs.Prelude.{None, Some}
 use Rattle.record.specs.declared.reason.Reason.{Reason}
 use Rattle.record.specs.declared.reason.Break.{Break}
-use Rattle.record.specs.declared.reason.Finding.{Finding}
-use Rattle.record.specs.declared.reason.Finding.TheVariants.{Fine, Broken}
+use Rattle.record.specs.Breaks.{Finding}
+use Rattle.std.specs.Prelude.{Ok, Err}
 use Rattle.record.specs.Table.{fields_of, file_of, file_count, which_of, on_file}
 use Rattle.record.specs.Cut.{count_of}
 use Rattle.record.specs.Files.{Files, delivery_of}
@@ -66,7 +66,7 @@ numbers-all : any (λ m. not (eqb (on_file file_of (which_of m)) m)) (file_count
 unfolding any which_of on_file
 numbers-all = refl
 
-which-number : (m : ℕ) (k : Kind) → m < file_count + 1 → which_of m ≡ File k → file_of k ≡ m
+which-number : (m : ℕ) (k : Kind) → m < file_count + 1 → which_of m ≡ Some k → file_of k ≡ m
 unfolding on_file
 which-number m k l e =
     let h = eqb-true _ m (not-false _ (any-no (λ m. not (eqb (on_file file_of (which_of m)) m)) (file_count + 1) numbers-all l)) in
@@ -177,8 +177,8 @@ module _ (files : Files) where
       go x.0 y.0 y.1 (x.2 ∙ ap (λ (r : List ℕ). x.0 ∷ r) y.2) y.3 (which_of y.0) refl y.4
     where
       go : (t m : ℕ) (q : List ℕ) → p ≡ t ∷ m ∷ q → m < file_count + 1 → (w : Which) → which_of m ≡ w → at (at_which (breaks_in files t) w) q ≡ some b → Stands files p b
-      go t m q h l NoFile s a = absurd (some-none (sym (at_leaf none q a).1))
-      go t m q h l (File k) s a = stands-in t m k p q h (which-number m k l s) a
+      go t m q h l None s a = absurd (some-none (sym (at_leaf none q a).1))
+      go t m q h l (Some k) s a = stands-in t m k p q h (which-number m k l s) a
 
   -- and every such break stands at its place
   pub stood : (n : ℕ) (k : Kind) (i f : ℕ) → holds files n k i f ≡ true
@@ -250,8 +250,8 @@ module _ (files : Files) where
   searched-is = go (searched files) (found_first files)
     where
       go : (v : Finding) → FoundFirst files v → v ≡ finding_of (run (breaks files))
-      go Fine m = ap finding_of (sym (none-run (λ n k i f. holds-is files n k i f ∙ m n k i f)))
-      go (Broken b) m = ap finding_of (sym (least-run b m))
+      go (Ok u) m = ap finding_of (sym (none-run (λ n k i f. holds-is files n k i f ∙ m n k i f)))
+      go (Err b) m = ap finding_of (sym (least-run b m))
 
   pub found-judged : FoundFirst files (judged files)
   found-judged = subst (λ (v : Finding). FoundFirst files v) searched-is (found_first files)
@@ -262,8 +262,8 @@ module _ (files : Files) where
   finds-first = go (judged files) found-judged
     where
       go : (v : Finding) → FoundFirst files v → Finds files v
-      go Fine m = λ n k i f w. true-false (sym w.here ∙ holds-is files n k i f ∙ m n k i f)
-      go (Broken b) m =
+      go (Ok u) m = λ n k i f w. true-false (sym w.here ∙ holds-is files n k i f ∙ m n k i f)
+      go (Err b) m =
           record {
             n = m.n;
             k = m.k;
@@ -295,10 +295,10 @@ module _ (files : Files) where
 
   one-finding : (v w : Finding) → Finds files v → Finds files w → v ≡ w
   unfolding Finds
-  one-finding Fine Fine m m' = refl
-  one-finding Fine (Broken b) m m' = absurd (m _ _ _ _ m'.really)
-  one-finding (Broken b) Fine m m' = absurd (m' _ _ _ _ m.really)
-  one-finding (Broken b) (Broken b') m m' = ap Broken (first_one m m')
+  one-finding (Ok u) (Ok w) m m' = refl
+  one-finding (Ok u) (Err b) m m' = absurd (m _ _ _ _ m'.really)
+  one-finding (Err b) (Ok u) m m' = absurd (m' _ _ _ _ m.really)
+  one-finding (Err b) (Err b') m m' = ap Err (first_one m m')
 
   -- THE VERDICT means that, with its counts, and no other does
   pub exact : Judges files (verdict_of files)
@@ -311,15 +311,15 @@ module _ (files : Files) where
 
   -- THE GUARD CHANGES NOTHING: the delivery is accepted exactly if no test holds anywhere, and of two places at which tests hold the break
   -- shown is at the first, whether lower tens have breaks or not
-  pub accepted-plainly : (judged files ≡ Fine → (n : ℕ) (k : Kind) (i f : ℕ) → holds files n k i f ≡ false)
-      × (((n : ℕ) (k : Kind) (i f : ℕ) → holds files n k i f ≡ false) → judged files ≡ Fine)
+  pub accepted-plainly : (judged files ≡ Ok tt → (n : ℕ) (k : Kind) (i f : ℕ) → holds files n k i f ≡ false)
+      × (((n : ℕ) (k : Kind) (i f : ℕ) → holds files n k i f ≡ false) → judged files ≡ Ok tt)
   unfolding judged FoundFirst
   accepted-plainly = (
     λ e n k i f. holds-is files n k i f ∙ subst (λ (v : Finding). FoundFirst files v) e found-judged n k i f,
     λ h. ap finding_of (none-run h),
   )
 
-  pub first-plainly : (b : Break) → judged files ≡ Broken b → (n : ℕ) (k : Kind) (i f : ℕ) → holds files n k i f ≡ true
+  pub first-plainly : (b : Break) → judged files ≡ Err b → (n : ℕ) (k : Kind) (i f : ℕ) → holds files n k i f ≡ true
       → before (place_at n k i f) (number_of b.reason / 10 ∷ b.file ∷ b.«record» ∷ b.field ∷ number_of b.reason ∷ []) ≡ true → ⊥
   unfolding FoundFirst
   first-plainly b e n k i f h l =

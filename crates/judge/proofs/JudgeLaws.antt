@@ -7,9 +7,9 @@ use mathlib.Core.Path.{◌≡◌, refl, sym}
 use Rattle.record.specs.Cut.{count_of}
 use Rattle.laws.specs.Row.{pick, row}
 use Rattle.record.specs.declared.kind.Kind.{Kind}
-use Rattle.record.specs.declared.kind.Which.{Which}
-use Rattle.record.specs.declared.reason.Finding.{Finding}
-use Rattle.record.specs.declared.reason.Finding.TheVariants.{Fine}
+use Rattle.record.specs.Table.{Which}
+use Rattle.record.specs.Breaks.{Finding}
+use Rattle.std.specs.Prelude.{Ok}
 use Rattle.record.specs.Table.{which_of, file_count, on_file}
 use Rattle.record.specs.Files.{Files}
 use Rattle.record.specs.Breaks.{shape_finding, fields_finding}
@@ -35,7 +35,7 @@ unfolding count_no counts_of row which_of on_file
 counts-row files = refl
 
 -- OF A TEN: the others have no reasons
-pub group-else : (files : Files) (t : ℕ) → NoneOf (7 ∷ numbers 1 5) t → Fine ≡ group_at files t
+pub group-else : (files : Files) (t : ℕ) → NoneOf (7 ∷ numbers 1 5) t → Ok tt ≡ group_at files t
 unfolding group_at
 group-else files t o =
     sym

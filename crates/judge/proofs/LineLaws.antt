@@ -14,9 +14,9 @@ use borrow.Author.Tests.{eq-eqb, ne_eqb}
 use Rattle.laws.specs.Find.{first_index}
 use Rattle.laws.proofs.FindLaws.{index-start, index-more, index-here, index-end}
 use Rattle.field.specs.Digits.{digits}
-use Rattle.record.specs.declared.kind.Which.{Which}
+use Rattle.record.specs.Table.{Which}
 use Rattle.record.specs.declared.reason.Break.{Break}
-use Rattle.record.specs.declared.reason.Finding.TheVariants.{Fine, Broken}
+use Rattle.std.specs.Prelude.{Ok, Err}
 use Rattle.record.specs.Table.{which_of, file_count}
 use Rattle.record.specs.Files.{Files}
 use Rattle.record.specs.Breaks.{number_of}
@@ -147,11 +147,11 @@ big-line-start file = record { room = refl; written = refl; rest = refl }
 
 -- THE LINE of a verdict, by its finding
 module _ (v : Verdict) (s : List ℕ) where
-  pub fine-line : v.finding ≡ Fine → s ≡ 79 ∷ 75 ∷ count_words v.counts → s ≡ line_of v
+  pub fine-line : v.finding ≡ Ok tt → s ≡ 79 ∷ 75 ∷ count_words v.counts → s ≡ line_of v
   unfolding line_of
   fine-line e h = rw e h
 
-  pub broken-line : (b : Break) → v.finding ≡ Broken b → s ≡ break_line b → s ≡ line_of v
+  pub broken-line : (b : Break) → v.finding ≡ Err b → s ≡ break_line b → s ≡ line_of v
   unfolding line_of
   broken-line b e h = rw e h
 

@@ -9,7 +9,7 @@ use native.Mathlib.Omega.{arith}
 use lib.ListN.{length, take, drop, get_or, length-append}
 use lib.Seq.{take_at, drop-append-add}
 use Rattle.record.specs.declared.kind.Kind.{Kind}
-use Rattle.record.specs.declared.reason.Finding.TheVariants.{Fine}
+use Rattle.std.specs.Prelude.{Ok}
 use Rattle.record.specs.Table.{length_of, fields_of, col_at, form_at, width_at}
 use Rattle.record.specs.Cut.{count_of, record_of, text_of}
 use Rattle.record.specs.Breaks.{shape_finding, fields_finding}
@@ -62,15 +62,15 @@ module _ (k : Kind) where
     record-written i l = sym (record-part (written_of k xs) k i (rw count-written l) refl) ∙ part-written xs i l
 
     -- of a file's shape nothing is broken
-    pub shape-written : length xs ≤ limit → shape_finding (written_of k xs) k ≡ Fine
+    pub shape-written : length xs ≤ limit → shape_finding (written_of k xs) k ≡ Ok tt
     shape-written h =
         sym
         (shape-fine (written_of k xs) k refl
         (rw (length-written xs) (mul-le-mul_right (length_of k) h)) (rw (length-written xs, mul-mod_left) (omega arith)))
 
-    module _ (fields : (i : ℕ) → i < length xs → values_finding k (values_say k (get_or xs i no_values)) ≡ Fine) where
+    module _ (fields : (i : ℕ) → i < length xs → values_finding k (values_say k (get_or xs i no_values)) ≡ Ok tt) where
       -- nor of its fields,
-      pub fields-written : fields_finding (written_of k xs) k ≡ Fine
+      pub fields-written : fields_finding (written_of k xs) k ≡ Ok tt
       fields-written =
           fields-fine (written_of k xs) k
           (λ i l.

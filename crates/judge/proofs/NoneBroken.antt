@@ -13,11 +13,11 @@ use borrow.Author.Tests.{leb-true, le-leb}
 use Rattle.laws.proofs.FindLaws.{first-none}
 use Rattle.laws.proofs.RowLaws.{and-true, true-and, then-false, and_last}
 use Rattle.record.specs.declared.kind.Kind.{Kind}
-use Rattle.record.specs.declared.kind.Which.{Which}
-use Rattle.record.specs.declared.kind.Which.TheVariants.{NoFile, File}
+use Rattle.record.specs.Table.{Which}
+use Rattle.std.specs.Prelude.{None, Some}
 use Rattle.record.specs.declared.reason.Break.{Break}
-use Rattle.record.specs.declared.reason.Finding.{Finding}
-use Rattle.record.specs.declared.reason.Finding.TheVariants.{Fine}
+use Rattle.record.specs.Breaks.{Finding}
+use Rattle.std.specs.Prelude.{Ok}
 use Rattle.record.specs.Table.{fields_of, which_of, file_count}
 use Rattle.record.specs.Cut.{count_of, record_of}
 use Rattle.record.specs.Breaks.{finding_of, record_finding, fields_finding}
@@ -25,22 +25,22 @@ use Rattle.record.proofs.FindingLaws.{in_file, fields-is, record-turn}
 use Rattle.keys.specs.machinery.Groups.{Tests, Reasons, cell_break, cells_of, group_finding, broken_by, break_in, at_file, over_files}
 
 -- OF A FILE'S FIELDS: each record is lawful
-finding-none : (o : Option Break) → finding_of o ≡ Fine → o ≡ none
+finding-none : (o : Option Break) → finding_of o ≡ Ok tt → o ≡ none
 finding-none none e = refl
 finding-none (some b) e = let z : ◌≡◌ {A = ℕ} 0 1 = cc in absurd (omega arith)
 
-pub fields-fine : (s : List ℕ) (k : Kind) → ((i : ℕ) → i < count_of s k → record_finding (record_of s k i) k (i + 1) ≡ Fine) → fields_finding s k ≡ Fine
+pub fields-fine : (s : List ℕ) (k : Kind) → ((i : ℕ) → i < count_of s k → record_finding (record_of s k i) k (i + 1) ≡ Ok tt) → fields_finding s k ≡ Ok tt
 fields-fine s k h =
     fields-is s k ∙ ap finding_of (first-none (in_file s k) (count_of s k) (λ i l. finding-none (in_file s k i) (sym (record-turn s k i) ∙ h i l)))
 
 -- OVER THE FILES: each is fine
-pub over-fine : (g : Kind → Finding) → ((k : Kind) → g k ≡ Fine) → over_files g ≡ Fine
+pub over-fine : (g : Kind → Finding) → ((k : Kind) → g k ≡ Ok tt) → over_files g ≡ Ok tt
 unfolding over_files
 over-fine g h = ap finding_of (first-none _ (file_count + 1) (λ n l. go (which_of n)))
   where
     go : (w : Which) → break_in (at_file g w) ≡ none
-    go NoFile = refl
-    go (File k) = ap break_in (h k)
+    go None = refl
+    go (Some k) = ap break_in (h k)
 
 -- OF A GROUP: no reason's number is broken where no test of the records and the fields holds, and only there
 module _ (tests : ℕ → Tests) (k : Kind) (m : ℕ) where
@@ -71,7 +71,7 @@ module _ (tests : ℕ → Tests) (k : Kind) (m : ℕ) where
       let b = leb-true i m v.1 in
       h (n / 10) (i - 1) f (n % 10) (omega arith) (leb-true f (fields_of k) w.1) (mod-lt n (omega arith)))
 
-  pub none-broken-fine : NoneBroken → (reasons : Reasons) (t : ℕ) → group_finding (tests t) reasons k m ≡ Fine
+  pub none-broken-fine : NoneBroken → (reasons : Reasons) (t : ℕ) → group_finding (tests t) reasons k m ≡ Ok tt
   unfolding group_finding cell_break
   none-broken-fine h reasons t =
       ap finding_of

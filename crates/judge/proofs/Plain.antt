@@ -18,8 +18,8 @@ use Rattle.record.specs.declared.kind.Kind.{Kind}
 use Rattle.record.specs.declared.reason.Reason.{Reason}
 use Rattle.record.specs.declared.reason.Reason.TheVariants.{LongFile10}
 use Rattle.record.specs.declared.reason.Break.{Break}
-use Rattle.record.specs.declared.reason.Finding.{Finding}
-use Rattle.record.specs.declared.reason.Finding.TheVariants.{Fine, Broken}
+use Rattle.record.specs.Breaks.{Finding}
+use Rattle.std.specs.Prelude.{Ok, Err}
 use Rattle.record.specs.Table.{file_of, which_of}
 use Rattle.record.specs.Files.{Files, Delivery, delivery_of}
 use Rattle.record.specs.Breaks.{number_of, break_of, finding_of, ten_reasons, twenty_reasons, shape_finding, fields_finding, broken}
@@ -52,25 +52,25 @@ pub record LeastBroken (files : Files) (b : Break) : Type 0 where
   pub least : (n' : ℕ) (k' : Kind) (i' f' : ℕ) → broken_in files n' k' i' f' ≡ true → before (place_at n' k' i' f') (place_at n k i f) ≡ true → ⊥
 
 unfoldable pub FoundFirst : Files → Finding → Type 0
-FoundFirst files Fine = (n : ℕ) (k : Kind) (i f : ℕ) → broken_in files n k i f ≡ false
-FoundFirst files (Broken b) = LeastBroken files b
+FoundFirst files (Ok u) = (n : ℕ) (k : Kind) (i f : ℕ) → broken_in files n k i f ≡ false
+FoundFirst files (Err b) = LeastBroken files b
 
 -- a finding means the same of tests that are the same in its ten
 means-same :
     (p q : ℕ → ℕ → ℕ → Bool) (t : ℕ) (k : Kind) (v : Finding) → ((n i f : ℕ) → n / 10 ≡ t → p n i f ≡ q n i f)
     → MeansBy p t k v → MeansBy q t k v
 unfolding MeansBy
-means-same p q t k Fine same m = λ n i f e. sym (same n i f e) ∙ m n i f e
-means-same p q t k (Broken b) same m =
+means-same p q t k (Ok u) same m = λ n i f e. sym (same n i f e) ∙ m n i f e
+means-same p q t k (Err b) same m =
     (m.0, m.1, sym (same _ _ _ m.0) ∙ m.2, λ n i f e here l. m.3 n i f e (same n i f e ∙ here) l)
 
 module _ (p : ℕ → ℕ → ℕ → Bool) (t : ℕ) (k : Kind) where
-  fine-means : {v : Finding} → v ≡ Fine → MeansBy p t k v → (n i f : ℕ) → n / 10 ≡ t → p n i f ≡ false
+  fine-means : {v : Finding} → v ≡ Ok tt → MeansBy p t k v → (n i f : ℕ) → n / 10 ≡ t → p n i f ≡ false
   unfolding MeansBy
   fine-means e m = subst (λ (v : Finding). MeansBy p t k v) e m
 
   broken-means :
-      (b : Break) → MeansBy p t k (Broken b)
+      (b : Break) → MeansBy p t k (Err b)
       → (number_of b.reason / 10 ≡ t)
       × (b.file ≡ file_of k)
       × (p (number_of b.reason) b.«record» b.field ≡ true)
@@ -79,7 +79,7 @@ module _ (p : ℕ → ℕ → ℕ → Bool) (t : ℕ) (k : Kind) where
   unfolding MeansBy
   broken-means b m = m
 
-fine-broken : {b : Break} → Fine ≡ Broken b → ⊥
+fine-broken : {b : Break} → ◌≡◌ {A = Finding} (Ok tt) (Err b) → ⊥
 fine-broken e = let z : ◌≡◌ {A = ℕ} 0 1 = cc in omega arith
 
 -- A TEN: each file's finding, which means what the tests of the ten say, and the break that it shows
@@ -88,7 +88,7 @@ record Ten (files : Files) (t : ℕ) : Type 0 where
   over : group_at files t ≡ over_files found
   means : (k : Kind) → MeansBy (λ n i f. broken_in files n k i f) t k (found k)
   shown :
-      (k : Kind) (b : Break) → found k ≡ Broken b
+      (k : Kind) (b : Break) → found k ≡ Err b
       → b ≡ break_of (reason_of files (number_of b.reason) k b.«record» b.field) k b.«record» b.field
 
 module _ (files : Files) where
@@ -99,7 +99,7 @@ module _ (files : Files) where
       → ((n : ℕ) (k : Kind) (i f : ℕ) → n / 10 ≡ t → tests k n i f ≡ broken_in files n k i f)
       → ((n : ℕ) (k : Kind) (i f : ℕ) → n / 10 ≡ t → get_or (reasons k (i - 1) f) (n % 10) LongFile10 ≡ reason_of files n k i f)
       → ((k : Kind) → MeansBy (tests k) t k (found k))
-      → ((k : Kind) (b : Break) → found k ≡ Broken b → MeansBy (tests k) t k (Broken b) → ShownBy (reasons k) k b)
+      → ((k : Kind) (b : Break) → found k ≡ Err b → MeansBy (tests k) t k (Err b) → ShownBy (reasons k) k b)
       → Ten files t
   ten-of t tests found reasons over same told means shown =
       record {
@@ -111,9 +111,9 @@ module _ (files : Files) where
             shown k b e m ∙ ap (λ (r : Reason). break_of r k b.«record» b.field) (told _ k _ _ (broken-means _ t k b m).0);
       }
 
-  ten-none : (t : ℕ) → group_at files t ≡ Fine → ((n : ℕ) (k : Kind) (i f : ℕ) → n / 10 ≡ t → broken_in files n k i f ≡ false) → Ten files t
+  ten-none : (t : ℕ) → group_at files t ≡ Ok tt → ((n : ℕ) (k : Kind) (i f : ℕ) → n / 10 ≡ t → broken_in files n k i f ≡ false) → Ten files t
   unfolding over_files first_of which_of MeansBy
-  ten-none t e h = record { found = λ k. Fine; over = e; means = λ k n i f q. h n k i f q; shown = λ k b q. absurd (fine-broken q) }
+  ten-none t e h = record { found = λ k. Ok tt; over = e; means = λ k n i f q. h n k i f q; shown = λ k b q. absurd (fine-broken q) }
 
   abbrev d : Delivery
   d = delivery_of files
@@ -143,25 +143,25 @@ module _ (files : Files) where
   ten (suc (suc (suc (suc (suc (suc (suc (suc t)))))))) = ten-none (suc (suc (suc (suc (suc (suc (suc (suc t)))))))) refl (λ n k i f e. rw e)
 
   -- where a ten has no finding, none of its reasons is broken
-  ten-fine : (t : ℕ) → group_at files t ≡ Fine → (n : ℕ) (k : Kind) (i f : ℕ) → n / 10 ≡ t → broken_in files n k i f ≡ false
+  ten-fine : (t : ℕ) → group_at files t ≡ Ok tt → (n : ℕ) (k : Kind) (i f : ℕ) → n / 10 ≡ t → broken_in files n k i f ≡ false
   ten-fine t e n k i f q = fine-means _ t k (over-fine (ten t).found (sym (ten t).over ∙ e) k) ((ten t).means k) n i f q
 
   -- NOTHING is found
-  group-past : (t : ℕ) → last_ten < t → group_at files t ≡ Fine
+  group-past : (t : ℕ) → last_ten < t → group_at files t ≡ Ok tt
   unfolding group_at
   group-past t l = let e : t ≡ suc (suc (suc (suc (suc (suc (suc (suc (t - 8)))))))) = omega arith in ap (group_at files) e
 
-  all-fine : first_of (λ t. break_in (group_at files t)) (last_ten + 1) ≡ none → (t : ℕ) → group_at files t ≡ Fine
+  all-fine : first_of (λ t. break_in (group_at files t)) (last_ten + 1) ≡ none → (t : ℕ) → group_at files t ≡ Ok tt
   all-fine e t = go (dec_lt t (last_ten + 1))
     where
-      go : Dec (t < last_ten + 1) → group_at files t ≡ Fine
+      go : Dec (t < last_ten + 1) → group_at files t ≡ Ok tt
       go (yes l) = break-none _ (none-at _ (last_ten + 1) e l)
       go (no l) = group-past t (omega arith)
 
   -- A BREAK is found in file k: the tens below have none, and in its ten neither have the files below
   first-break :
-      (t : ℕ) (k : Kind) (b : Break) → ((t' : ℕ) → t' < t → group_at files t' ≡ Fine) → (ten t).found k ≡ Broken b
-      → ((k' : Kind) → file_of k' < file_of k → (ten t).found k' ≡ Fine) → LeastBroken files b
+      (t : ℕ) (k : Kind) (b : Break) → ((t' : ℕ) → t' < t → group_at files t' ≡ Ok tt) → (ten t).found k ≡ Err b
+      → ((k' : Kind) → file_of k' < file_of k → (ten t).found k' ≡ Ok tt) → LeastBroken files b
   first-break t k b below e lower =
       let m = broken-means _ t k b (subst (λ (v : Finding). MeansBy (λ n i f. broken_in files n k i f) t k v) e ((ten t).means k)) in
       record {

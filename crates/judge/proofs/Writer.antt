@@ -9,7 +9,7 @@ use lib.ListN.{length}
 use Rattle.laws.proofs.FindLaws.{first-none}
 use Rattle.laws.proofs.Turns.{stay}
 use Rattle.record.specs.declared.kind.Kind.{Kind}
-use Rattle.record.specs.declared.reason.Finding.TheVariants.{Fine}
+use Rattle.std.specs.Prelude.{Ok}
 use Rattle.record.specs.Table.{kinds}
 use Rattle.record.specs.Breaks.{finding_of}
 use Rattle.record.specs.Files.{Delivery, delivery_of}
@@ -35,21 +35,21 @@ use Rattle.judge.proofs.Shuffle.{shuffled-obeys}
 use Rattle.judge.proofs.Exact.{searched-is}
 
 -- where nothing is broken, nothing is found
-pub keys-fine : (d : Delivery) → ((k : Kind) (n i f : ℕ) → keys_broken d k n i f ≡ false) → (t : ℕ) → keys_finding t d ≡ Fine
+pub keys-fine : (d : Delivery) → ((k : Kind) (n i f : ℕ) → keys_broken d k n i f ≡ false) → (t : ℕ) → keys_finding t d ≡ Ok tt
 unfolding keys_finding keys_in keys_broken
 keys-fine d h t = over-fine _ (λ k. none-broken-fine (λ t. key_tests t d k) k (d k).count (h k) (key_reasons t d k) t)
 
-pub topology-fine : (d : Delivery) → ((k : Kind) (n i f : ℕ) → topology_broken d k n i f ≡ false) → topology_finding d ≡ Fine
+pub topology-fine : (d : Delivery) → ((k : Kind) (n i f : ℕ) → topology_broken d k n i f ≡ false) → topology_finding d ≡ Ok tt
 unfolding topology_finding topology_in topology_broken
 topology-fine d h = over-fine _ (λ k. none-broken-fine (topology_tests d k) k (d k).count (h k) (fifty_reasons d k) 5)
 
-pub objects-fine : (d : Delivery) → ((k : Kind) (n i f : ℕ) → objects_broken d k n i f ≡ false) → objects_finding d ≡ Fine
+pub objects-fine : (d : Delivery) → ((k : Kind) (n i f : ℕ) → objects_broken d k n i f ≡ false) → objects_finding d ≡ Ok tt
 unfolding objects_finding objects_in objects_broken
 objects-fine d h = over-fine _ (λ k. none-broken-fine (objects_tests d k) k (d k).count (h k) (λ i f. seventy_reasons) 7)
 
 module _ (vs : Records) (o : Obeys vs) where
   -- no record is refused
-  writable : (k : Kind) (i : ℕ) → i < length (vs k) → values_finding k (values_say k (values_at vs k i)) ≡ Fine
+  writable : (k : Kind) (i : ℕ) → i < length (vs k) → values_finding k (values_say k (values_at vs k i)) ≡ Ok tt
   writable k i l = (values-fine k (values_say k (values_at vs k i))).1 (λ f u b. o.fields k i f u l b)
 
   -- the files' tables say what the values say
@@ -71,7 +71,7 @@ module _ (vs : Records) (o : Obeys vs) where
   objects-made : (k : Kind) (n i f : ℕ) → objects_broken (delivery_of (made_of vs)) k n i f ≡ false
   objects-made = objects-rearranged (tables_of vs) (delivery_of (made_of vs)) tables-made (λ k n i f. said-objects _ n k i f (o.rules n k i f))
 
-  group-fine : (t : ℕ) → group_at (made_of vs) t ≡ Fine
+  group-fine : (t : ℕ) → group_at (made_of vs) t ≡ Ok tt
   unfolding group_at
   group-fine zero = refl
   group-fine (suc zero) = over-fine _ (λ k. shape-written k (vs k) (o.few k))
@@ -83,7 +83,7 @@ module _ (vs : Records) (o : Obeys vs) where
   group-fine (suc (suc (suc (suc (suc (suc (suc zero))))))) = objects-fine _ objects-made
   group-fine (suc (suc (suc (suc (suc (suc (suc (suc t)))))))) = refl
 
-  made-fine : judged (made_of vs) ≡ Fine
+  made-fine : judged (made_of vs) ≡ Ok tt
   unfolding searched
   made-fine = sym (searched-is (made_of vs)) ∙ ap finding_of (first-none _ (last_ten + 1) (λ t l. ap break_in (group-fine t)))
 
@@ -100,4 +100,4 @@ module _ (vs : Records) (o : Obeys vs) where
 pub writer-promise-any-order : (vs ws : Records) → Obeys vs → ((k : Kind) → Shuffled (vs k) (ws k)) → verdict_of (made_of ws) ≡ accepted vs
 writer-promise-any-order vs ws o sh =
     let long : (k : Kind) → length (ws k) ≡ length (vs k) = λ k. (sh k).long in
-    writer-promise ws (shuffled-obeys vs ws sh o) ∙ ap (λ (lengths : Kind → ℕ). record { finding = Fine; counts = map lengths kinds }) (fun_ext long)
+    writer-promise ws (shuffled-obeys vs ws sh o) ∙ ap (λ (lengths : Kind → ℕ). record { finding = (Ok tt); counts = map lengths kinds }) (fun_ext long)

@@ -6,13 +6,13 @@ use Rattle.laws.specs.Find.{hit}
 use Rattle.laws.specs.Nest.{Nest, leaf, node, before}
 use Rattle.laws.specs.Row.{pick}
 use Rattle.record.specs.declared.kind.Kind.{Kind}
-use Rattle.record.specs.declared.kind.Which.{Which}
-use Rattle.record.specs.declared.kind.Which.TheVariants.{NoFile, File}
+use Rattle.record.specs.Table.{Which}
+use Rattle.std.specs.Prelude.{None, Some}
 use Rattle.record.specs.declared.reason.Reason.{Reason}
 use Rattle.record.specs.declared.reason.Reason.TheVariants.{LongFile10}
 use Rattle.record.specs.declared.reason.Break.{Break}
-use Rattle.record.specs.declared.reason.Finding.{Finding}
-use Rattle.record.specs.declared.reason.Finding.TheVariants.{Fine, Broken}
+use Rattle.record.specs.Breaks.{Finding}
+use Rattle.std.specs.Prelude.{Ok, Err}
 use Rattle.record.specs.Table.{fields_of, file_of, file_count, which_of, kinds}
 use Rattle.record.specs.Cut.{count_of, record_of}
 use Rattle.record.specs.Files.{Files, Delivery, delivery_of}
@@ -102,8 +102,8 @@ breaks_in files t k =
 
 -- and of the ten in all files,
 abbrev pub at_which : (Kind → Nest Break) → Which → Nest Break
-at_which g NoFile = leaf none
-at_which g (File k) = g k
+at_which g None = leaf none
+at_which g (Some k) = g k
 
 unfoldable pub breaks_of : Files → ℕ → Nest Break
 breaks_of files t = node (file_count + 1) (λ n. at_which (breaks_in files t) (which_of n))
@@ -129,8 +129,8 @@ pub record First (files : Files) (b : Break) : Type 0 where
 
 -- what a finding on a delivery is to mean
 unfoldable pub Finds : Files → Finding → Type 0
-Finds files Fine = (n : ℕ) (k : Kind) (i f : ℕ) → IsBroken files n k i f → ⊥
-Finds files (Broken b) = First files b
+Finds files (Ok u) = (n : ℕ) (k : Kind) (i f : ℕ) → IsBroken files n k i f → ⊥
+Finds files (Err b) = First files b
 
 -- how many whole records each file's bytes have
 unfoldable pub counts_of : Files → List ℕ

@@ -7,15 +7,15 @@ use Rattle.laws.specs.Row.{row}
 use Rattle.field.specs.Texts.{padded}
 use Rattle.record.specs.declared.kind.Kind.{Kind}
 use Rattle.record.specs.declared.kind.Kind.TheVariants.{Catalogo, ObPun, ObTex, ObLin, Tramo, Vertice, Nodo, ObComp}
-use Rattle.record.specs.declared.reason.Finding.{Finding}
-use Rattle.record.specs.declared.reason.Finding.TheVariants.{Fine, Broken}
+use Rattle.record.specs.Breaks.{Finding}
+use Rattle.std.specs.Prelude.{Ok, Err}
 use Rattle.record.specs.Table.{fields_of, length_of, width_at}
 use Rattle.record.specs.Files.{Files, files_of}
 use Rattle.record.specs.Breaks.{number_of}
 use Rattle.record.specs.Says.{number, coordinate}
 use Rattle.codec.specs.declared.values.Values.{Values}
-use Rattle.codec.specs.declared.values.Answer.{Answer}
-use Rattle.codec.specs.declared.values.Answer.TheVariants.{Done, Refused}
+use Rattle.codec.specs.Calls.{Answer}
+use Rattle.std.specs.Prelude.{Ok, Err}
 use Rattle.codec.specs.Values.{no_value, value_of}
 use Rattle.codec.specs.Writes.{joined}
 use Rattle.codec.specs.Calls.{answer_in}
@@ -90,12 +90,12 @@ pub data Outcome : Type 0 where
   these : List ℕ → Outcome
 
 abbrev pub of_finding : Finding → List ℕ → Outcome
-of_finding Fine counts = OK counts
-of_finding (Broken b) counts = NO (number_of b.reason) b.file b.«record» b.field
+of_finding (Ok u) counts = OK counts
+of_finding (Err b) counts = NO (number_of b.reason) b.file b.«record» b.field
 
 abbrev pub of_answer : Answer → Outcome
-of_answer Done = done
-of_answer (Refused reason field) = refused (number_of reason) field
+of_answer (Ok u) = done
+of_answer (Err r) = refused (number_of r.reason) r.field
 
 abbrev pub outcome : Case → Outcome
 outcome (judging files) = of_finding (verdict_of files).finding (verdict_of files).counts

@@ -4,11 +4,11 @@ use Rattle.std.specs.Prelude.{ℕ, ◌+◌, ◌-◌, ◌*◌, Bool, false, List,
 use Rattle.laws.specs.Find.{first_index}
 use Rattle.laws.specs.Row.{pick}
 use Rattle.field.specs.Digits.{digits}
-use Rattle.record.specs.declared.kind.Which.{Which}
-use Rattle.record.specs.declared.kind.Which.TheVariants.{NoFile, File}
+use Rattle.record.specs.Table.{Which}
+use Rattle.std.specs.Prelude.{None, Some}
 use Rattle.record.specs.declared.reason.Break.{Break}
-use Rattle.record.specs.declared.reason.Finding.{Finding}
-use Rattle.record.specs.declared.reason.Finding.TheVariants.{Fine, Broken}
+use Rattle.record.specs.Breaks.{Finding}
+use Rattle.std.specs.Prelude.{Ok, Err}
 use Rattle.record.specs.Table.{which_of, file_count}
 use Rattle.record.specs.Files.{Files}
 use Rattle.record.specs.Breaks.{number_of}
@@ -28,8 +28,8 @@ break_line b =
     78 ∷ 79 ∷ 32 ∷ (digits 2 (number_of b.reason) ++ 32 ∷ (digits 1 b.file ++ 32 ∷ (digits 5 b.«record» ++ 32 ∷ (digits 2 b.field ++ 10 ∷ []))))
 
 abbrev pub line_for : Finding → List ℕ → List ℕ
-line_for Fine counts = 79 ∷ 75 ∷ count_words counts
-line_for (Broken b) counts = break_line b
+line_for (Ok u) counts = 79 ∷ 75 ∷ count_words counts
+line_for (Err b) counts = break_line b
 
 -- `OK` and the counts; or the break
 unfoldable pub line_of : Verdict → List ℕ
@@ -41,8 +41,8 @@ big = 8192
 
 -- the file has more
 abbrev pub is_big : Files → Which → Bool
-is_big files NoFile = false
-is_big files (File k) = ltb big (length (files k))
+is_big files None = false
+is_big files (Some k) = ltb big (length (files k))
 
 -- the lowest number of such a file, and 0 where none is
 unfoldable pub big_of : Files → ℕ

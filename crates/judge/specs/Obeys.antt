@@ -2,7 +2,7 @@
 -- Assumes nothing.
 use Rattle.std.specs.Prelude.{ℕ, ◌≤◌, ◌<◌, false, List, [], ◌∷◌, ◌++◌, map, ◌≡◌, length, get_or, replicate}
 use Rattle.record.specs.declared.kind.Kind.{Kind}
-use Rattle.record.specs.declared.reason.Finding.TheVariants.{Fine}
+use Rattle.std.specs.Prelude.{Ok}
 use Rattle.record.specs.Table.{kinds, limit, most_fields, fields_of}
 use Rattle.record.specs.Files.{Files, Delivery}
 use Rattle.codec.specs.declared.values.Values.{Values}
@@ -47,7 +47,7 @@ abbrev pub lengths_of : Records → List ℕ
 lengths_of vs = map (λ k. length (vs k)) kinds
 
 abbrev pub accepted : Records → Verdict
-accepted vs = record { finding = Fine; counts = lengths_of vs }
+accepted vs = record { finding = (Ok tt); counts = lengths_of vs }
 
 -- the same records in another order: place i of ys is place `to i` of xs, and back
 pub record Shuffled {A : Type 0} (xs ys : List A) : Type 0 where

@@ -1,7 +1,7 @@
 -- The verdict on a delivery: the eight counts and the first break, by the tens of the reason, then file, record, field and reason.
 -- Assumes nothing.
 use Rattle.laws.specs.Nest.{run}
-use Rattle.record.specs.declared.reason.Finding.{Finding}
+use Rattle.record.specs.Breaks.{Finding}
 use Rattle.record.specs.Files.{Files}
 use Rattle.record.specs.Breaks.{finding_of}
 use Rattle.judge.specs.declared.judge.Verdict.{Verdict}

@@ -7,8 +7,8 @@ ghost use Rattle.field.specs.Digits.{digits};
 use crate::judge::{Verdict, judge};
 use field::number::put_number;
 use record::files::file_of;
-use record::kind::{FILES, Which, kind_of};
-use record::reason::{Break, Finding};
+use record::kind::{FILES, Kind, kind_of};
+use record::reason::Break;
 
 // The program takes no file of more bytes.
 pub const BIG: usize = 8192;
@@ -42,10 +42,8 @@ fn count_line(counts: [usize; FILES]) -> Line
     bytes[0] = 79;
     bytes[1] = 75;
     let mut at = 2;
-    let mut i = 0;
-    while i < FILES {
-        at = put_word(&mut bytes, at, 5, counts[i]);
-        i += 1;
+    for count in counts {
+        at = put_word(&mut bytes, at, 5, count);
     }
     bytes[at] = 10;
     Line { len: LINE, bytes }
@@ -73,18 +71,18 @@ pub fn line_of(v: Verdict) -> Line
     let finding = v.finding;
     let counts = v.counts;
     match finding {
-        Finding::Fine => count_line(counts),
-        Finding::Broken(b) => break_line(b),
+        Ok(()) => count_line(counts),
+        Err(b) => break_line(b),
     }
 }
 
 // Whether the file has more.
-fn is_big<'a>(which: Which, files: [&'a [u8]; FILES]) -> bool
+fn is_big<'a>(which: Option<Kind>, files: [&'a [u8]; FILES]) -> bool
     ensures { result ≡ is_big (files_of (map (λ x. x.now) files.entry)) which }
 {
     match which {
-        Which::NoFile => false,
-        Which::File(k) => { BIG < file_of(files, k).len() }
+        None => false,
+        Some(k) => { BIG < file_of(files, k).len() }
     }
 }
 
@@ -92,12 +90,10 @@ fn is_big<'a>(which: Which, files: [&'a [u8]; FILES]) -> bool
 pub fn first_big<'a>(files: [&'a [u8]; FILES]) -> usize
     ensures { result ≡ big_of (files_of (map (λ x. x.now) files.entry)) }
 {
-    let mut n = 0;
-    while n <= FILES {
+    for n in 0..FILES + 1 {
         if is_big(kind_of(n), files) {
             return n;
         }
-        n += 1;
     }
     0
 }

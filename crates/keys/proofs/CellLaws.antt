@@ -4,7 +4,8 @@
 use Prim.Native.Nat.{ℕ, zero, suc, ◌+◌, ◌*◌, ◌/◌, ◌%◌, ◌<◌, ◌≤◌}
 use mathlib.Core.Bool.{Bool, true, false, ◌&&◌}
 use mathlib.Core.List.{List}
-use mathlib.Core.Option.{Option, none, some}
+use mathlib.Core.Option as math
+use mathlib.Core.Option.{none, some}
 use mathlib.Core.Path.{◌≡◌, refl, sym, ap, ap₂, ◌∙◌}
 use mathlib.Core.Logic.{⊎_elim}
 use native.Mathlib.Nat.{le_of_suc-le-suc, not-suc-le-zero, eq-or-lt_of_le}
@@ -15,21 +16,21 @@ use lib.ListN.{get_or}
 use borrow.Author.Tests.{leb-true, leb-false, eqb-true}
 use Rattle.laws.specs.Find.{hit, first_of, first_index}
 use Rattle.laws.specs.Row.{pick}
-use Rattle.laws.proofs.FindLaws.{true-false, hit-some, hit-none, none-at, some_at, first-none, first-here, index_same, index-none-at, index-some-at}
+use Rattle.laws.proofs.FindLaws.{hit-some, hit-none, none-at, some_at, first-none, first-here, index_same, index-none-at, index-some-at}
 use Rattle.laws.specs.Count.{how_many}
 use Rattle.laws.proofs.CountLaws.{count_same, count_most}
-use Rattle.index.specs.declared.Found.{Found}
-use Rattle.index.specs.declared.Found.TheVariants.{At, Nothing}
+use Rattle.std.specs.Prelude.{Option, Some, None}
+use Rattle.index.specs.declared.tally.First.{First}
 use Rattle.index.specs.declared.tally.Tally.{Tally}
 use Rattle.index.specs.Keys.{found_of}
 use Rattle.index.specs.Marks.{Marked, is_marked}
-use Rattle.index.specs.Tally.{no_tally, with_cell, tally_of}
+use Rattle.index.specs.Tally.{no_tally, earlier, with_cell, tally_of}
 use Rattle.index.proofs.MarkLaws.{marked-as, marked-first}
-use Rattle.index.proofs.TallyLaws.{marked-many, tally-start, tally-more, tally-marks, tally-skip, tally-most}
+use Rattle.index.proofs.TallyLaws.{marked-many, with-many, tally-start, tally-more, tally-marks, tally-skip, tally-most}
 use Rattle.record.specs.declared.kind.Kind.{Kind}
 use Rattle.record.specs.declared.reason.Reason.TheVariants.{LongFile10}
 use Rattle.record.specs.declared.reason.Break.{Break}
-use Rattle.record.specs.declared.reason.Finding.TheVariants.{Fine, Broken}
+use Rattle.std.specs.Prelude.{Ok, Err}
 use Rattle.record.specs.Breaks.{break_of, finding_of}
 use Rattle.keys.specs.machinery.Groups.{Tests, Reasons, cell_break, cells_of, group_finding}
 use Rattle.keys.specs.machinery.Cells.{cell_test, tally_in, OneMore}
@@ -48,11 +49,11 @@ pub record Least (test : ℕ → ℕ → Bool) (n m i c : ℕ) : Type 0 where
   pub left : (c' : ℕ) → c' < c → test i c' ≡ false
 
 -- FIRST ANSWERS of n records and m cells
-unfoldable pub first_cell : {B : Type 0} → (ℕ → ℕ → Bool) → (ℕ → ℕ → B) → ℕ → ℕ → Option B
+unfoldable pub first_cell : {B : Type 0} → (ℕ → ℕ → Bool) → (ℕ → ℕ → B) → ℕ → ℕ → math.Option B
 first_cell test ans n m = first_of (λ i. first_of (λ c. hit (test i c) (ans i c)) m) n
 
 module _ {B : Type 0} (test : ℕ → ℕ → Bool) (ans : ℕ → ℕ → B) (n m : ℕ) where
-  unfoldable in_row : ℕ → Option B
+  unfoldable in_row : ℕ → math.Option B
   in_row i = first_of (λ c. hit (test i c) (ans i c)) m
 
   row-none : (i : ℕ) → ((c : ℕ) → c < m → test i c ≡ false) → in_row i ≡ none
@@ -98,9 +99,9 @@ module _ {B : Type 0} (test : ℕ → ℕ → Bool) (ans : ℕ → ℕ → B) (n
       )
 
 -- what a tally of m cells says of the first record
-pub record Says (test : ℕ → ℕ → Bool) (n m : ℕ) (t : Tally) : Type 0 where
-  pub nowhere : t.found ≡ false → Clear test n m
-  pub somewhere : t.found ≡ true → Least test n m t.at t.cell
+abbrev pub Says : (ℕ → ℕ → Bool) → ℕ → ℕ → Option First → Type 0
+Says test n m None = Clear test n m
+Says test n m (Some f) = Least test n m f.at f.cell
 
 module _ (test : ℕ → ℕ → Bool) (n : ℕ) where
   -- one cell more, at which the test does not hold above record i
@@ -109,55 +110,40 @@ module _ (test : ℕ → ℕ → Bool) (n : ℕ) where
       ⊎_elim (λ e. rw e (here i' l)) (λ u'. past i' c l u') (eq-or-lt_of_le (le_of_suc-le-suc u))
 
   -- it tells nothing better
-  says-kept : {m : ℕ} (t : Tally) (many : ℕ) → Says test n m t → (t.found ≡ false → (i : ℕ) → i < n → test i m ≡ false)
-      → (t.found ≡ true → (i : ℕ) → i < t.at → test i m ≡ false)
-      → Says test n (suc m) (record { found = t.found; at = t.at; cell = t.cell; many = many })
-  says-kept t many s here earlier =
-      record {
-        nowhere = λ e. clear-more (s.nowhere e) (here e);
-        somewhere = λ e.
-            let w = s.somewhere e in
-            record { row = w.row; cell = omega (arith, w.cell); holds = w.holds; above = clear-more w.above (earlier e); left = w.left };
-      }
+  least-kept : {m i c : ℕ} → Least test n m i c → ((i' : ℕ) → i' < i → test i' m ≡ false) → Least test n (suc m) i c
+  least-kept w earlier = record { row = w.row; cell = omega (arith, w.cell); holds = w.holds; above = clear-more w.above earlier; left = w.left }
 
   -- or record i, before which the cells before have nothing
-  says-new : {m i : ℕ} (many : ℕ) → i < n → test i m ≡ true → ((j : ℕ) → j < i → test j m ≡ false) → Clear test (suc i) m
-      → Says test n (suc m) (record { found = true; at = i; cell = m; many = many })
-  says-new {m} {i} many l here above past =
+  least-new : {m i : ℕ} → i < n → test i m ≡ true → ((j : ℕ) → j < i → test j m ≡ false) → Clear test (suc i) m → Least test n (suc m) i m
+  least-new {m} {i} l here above past =
       record {
-        nowhere = λ e. absurd (true-false e);
-        somewhere = λ e.
-            record {
-              row = l;
-              cell = omega arith;
-              holds = here;
-              above = clear-more (λ i' c l' u. past i' c (omega arith) u) above;
-              left = λ c u. past i c (omega arith) u;
-            };
+        row = l;
+        cell = omega arith;
+        holds = here;
+        above = clear-more (λ i' c l' u. past i' c (omega arith) u) above;
+        left = λ c u. past i c (omega arith) u;
       }
 
-  with-says : {m : ℕ} (t : Tally) (many : ℕ) (o : Option ℕ) → first_index (λ i. test i m) n ≡ o → Says test n m t
-      → Says test n (suc m) (with_cell t (found_of o) many m)
-  with-says {m} t many none e s =
-      says-kept t (t.many + many) s (λ _ i l. index-none-at _ n e l) (λ h i l. index-none-at _ n e (omega (arith, (s.somewhere h).row)))
-  with-says {m} t many (some i) e s = go t.found refl (leb t.at i) refl
+  with-says : (m : ℕ) (first : Option First) (o : math.Option ℕ) → first_index (λ i. test i m) n ≡ o → Says test n m first
+      → Says test n (suc m) (earlier first (found_of o) m)
+  with-says m None none e s = clear-more s (λ i l. index-none-at _ n e l)
+  with-says m (Some f) none e s = least-kept s (λ i l. index-none-at _ n e (omega (arith, s.row)))
+  with-says m None (some i) e s =
+      let at = index-some-at (λ j. test j m) n e in
+      least-new at.0 at.1 at.2 (λ i' c l u. s i' c (omega (arith, at.0)) u)
+  with-says m (Some f) (some i) e s = go (leb f.at i) refl
     where
       at : (i < n) × (test i m ≡ true) × ((j : ℕ) → j < i → test j m ≡ false)
       at = index-some-at (λ j. test j m) n e
 
-      go : (f : Bool) → t.found ≡ f → (l : Bool) → leb t.at i ≡ l
-          → Says test n (suc m)
-          (pick (f && l)
-          (record { found = t.found; at = t.at; cell = t.cell; many = t.many + many })
-          (record { found = true; at = i; cell = m; many = t.many + many }))
-      go true hf true hl = says-kept t _ s (λ h. absurd (true-false (sym hf ∙ h))) (λ h j u. at.2 j (omega (arith, leb-true t.at i hl)))
-      go true hf false hl = says-new _ at.0 at.1 at.2 (λ i' c l u. (s.somewhere hf).above i' c (omega (arith, leb-false t.at i hl)) u)
-      go false hf l hl = says-new _ at.0 at.1 at.2 (λ i' c l u. s.nowhere hf i' c (omega (arith, at.0)) u)
+      go : (l : Bool) → leb f.at i ≡ l → Says test n (suc m) (pick l (Some f) (Some (record { at = i; cell = m })))
+      go true h = least-kept s (λ j u. at.2 j (omega (arith, leb-true f.at i h)))
+      go false h = least-new at.0 at.1 at.2 (λ i' c l u. s.above i' c (omega (arith, leb-false f.at i h)) u)
 
-  tally-says : (m : ℕ) → Says test n m (tally_of test n m)
+  tally-says : (m : ℕ) → Says test n m (tally_of test n m).first
   unfolding tally_of
-  tally-says zero = record { nowhere = λ e i c l u. absurd (not-suc-le-zero u); somewhere = λ e. absurd (true-false (sym e)) }
-  tally-says (suc m) = with-says (tally_of test n m) _ (first_index (λ i. test i m) n) refl (tally-says m)
+  tally-says zero = λ i c l u. absurd (not-suc-le-zero u)
+  tally-says (suc m) = with-says m (tally_of test n m).first (first_index (λ i. test i m) n) refl (tally-says m)
 
 -- OF A GROUP of reasons: its breaks by cells
 unfoldable pub cell_answer : Reasons → Kind → ℕ → ℕ → Break
@@ -170,25 +156,28 @@ group-is tests reasons k n = refl
 
 -- THE FINDING of a file from its tally
 module _ (tests : Tests) (k : Kind) (n : ℕ) {t : Tally} (e : t ≡ tally_in tests k n) where
-  said : Says (cell_test tests) n (cells_of k) t
+  said : Says (cell_test tests) n (cells_of k) t.first
   unfolding tally_in
   said = rw e (tally-says (cell_test tests) n (cells_of k))
 
-  pub tally-row : t.found ≡ true → t.at < n
-  tally-row h = (said.somewhere h).row
+  least : {f : First} → t.first ≡ Some f → Least (cell_test tests) n (cells_of k) f.at f.cell
+  least h = rw h at said
 
-  pub tally-broken : (reasons : Reasons) {x : Break} → t.found ≡ true
-      → x ≡ break_of (get_or (reasons t.at (t.cell / 10)) (t.cell % 10) LongFile10) k (t.at + 1) (t.cell / 10)
-      → Broken x ≡ group_finding tests reasons k n
+  pub tally-row : {f : First} → t.first ≡ Some f → f.at < n
+  tally-row h = (least h).row
+
+  pub tally-broken : (reasons : Reasons) {f : First} {x : Break} → t.first ≡ Some f
+      → x ≡ break_of (get_or (reasons f.at (f.cell / 10)) (f.cell % 10) LongFile10) k (f.at + 1) (f.cell / 10)
+      → Err x ≡ group_finding tests reasons k n
   unfolding cell_answer
   tally-broken reasons h q =
-      ap Broken q
-      ∙ ap finding_of (sym (cells-some (cell_test tests) (cell_answer reasons k) n (cells_of k) (said.somewhere h)))
+      ap Err q
+      ∙ ap finding_of (sym (cells-some (cell_test tests) (cell_answer reasons k) n (cells_of k) (least h)))
       ∙ sym (group-is tests reasons k n)
 
-  pub tally-fine : (reasons : Reasons) → t.found ≡ false → Fine ≡ group_finding tests reasons k n
+  pub tally-fine : (reasons : Reasons) → t.first ≡ None → Ok tt ≡ group_finding tests reasons k n
   tally-fine reasons h =
-      ap finding_of (sym (cells-none (cell_test tests) (cell_answer reasons k) n (cells_of k) (said.nowhere h)))
+      ap finding_of (sym (cells-none (cell_test tests) (cell_answer reasons k) n (cells_of k) (rw h at said)))
       ∙ sym (group-is tests reasons k n)
 
 -- A CELL c that is not the one of field f and reason u
@@ -237,18 +226,10 @@ module _ (tests : Tests) (n : ℕ) where
   tallied-most t m l e = rw e.is (tally-most (cell_test tests) n l m)
 
 -- ONE CELL MORE, by what is found and counted or by marks; it is the tally's next
-with-many : (t : Tally) (f : Found) (m c : ℕ) → (with_cell t f m c).many ≡ t.many + m
-with-many t Nothing m c = refl
-with-many t (At i) m c = either (t.found && leb t.at i) _ _ refl refl
-  where
-    either : (b : Bool) (x y : Tally) → x.many ≡ t.many + m → y.many ≡ t.many + m → (pick b x y).many ≡ t.many + m
-    either true x y e h = e
-    either false x y e h = h
-
 pub one-by :
-    {t r : Tally} {test : ℕ → Bool} {n c m : ℕ} {f : Found} → f ≡ found_of (first_index test n) → m ≡ how_many test n → r ≡ with_cell t f m c
+    {t r : Tally} {test : ℕ → Bool} {n c m : ℕ} {f : Option ℕ} → f ≡ found_of (first_index test n) → m ≡ how_many test n → r ≡ with_cell t f m c
     → OneMore t test n c r
-one-by {t} {c = c} e h w = record { is = w ∙ ap₂ (λ (g : Found) (x : ℕ). with_cell t g x c) e h }
+one-by {t} {c = c} e h w = record { is = w ∙ ap₂ (λ (g : Option ℕ) (x : ℕ). with_cell t g x c) e h }
 
 pub one-marks :
     {t r : Tally} {before marks : List ℕ} {test : ℕ → Bool} {n c : ℕ} → Marked before marks test n

@@ -17,12 +17,12 @@ use Rattle.laws.proofs.NestLaws.{before_split}
 use Rattle.laws.proofs.FindLaws.{true-false, some-none, none-at, some_at, any-no}
 use Rattle.laws.proofs.RowLaws.{and-true, true-and}
 use Rattle.record.specs.declared.kind.Kind.{Kind}
-use Rattle.record.specs.declared.kind.Which.{Which}
-use Rattle.record.specs.declared.kind.Which.TheVariants.{NoFile, File}
+use Rattle.record.specs.Table.{Which}
+use Rattle.std.specs.Prelude.{None, Some}
 use Rattle.record.specs.declared.reason.Reason.TheVariants.{LongFile10}
 use Rattle.record.specs.declared.reason.Break.{Break}
-use Rattle.record.specs.declared.reason.Finding.{Finding}
-use Rattle.record.specs.declared.reason.Finding.TheVariants.{Fine, Broken}
+use Rattle.record.specs.Breaks.{Finding}
+use Rattle.std.specs.Prelude.{Ok, Err}
 use Rattle.record.specs.Table.{fields_of, file_of, which_of, file_count}
 use Rattle.record.specs.Breaks.{number_of, finding_of}
 use Rattle.record.proofs.Claims.{MeansBy}
@@ -76,7 +76,7 @@ module _ (t : ℕ) (tests : ℕ → Tests) (reasons : Reasons) (k : Kind) (m : �
       (rw (x, y, z) h)
 
   -- nothing is broken
-  group-clear : Clear (cell_test (tests t)) m (cells_of k) → MeansBy (broken_by tests k m) t k Fine
+  group-clear : Clear (cell_test (tests t)) m (cells_of k) → MeansBy (broken_by tests k m) t k (Ok tt)
   unfolding MeansBy
   group-clear clear n i f q = go (broken_by tests k m n i f) refl
     where
@@ -88,7 +88,7 @@ module _ (t : ℕ) (tests : ℕ → Tests) (reasons : Reasons) (k : Kind) (m : �
 
   -- the first that is
   group-least : Numbered → (i c : ℕ) → Least (cell_test (tests t)) m (cells_of k) i c
-      → MeansBy (broken_by tests k m) t k (Broken (cell_answer reasons k i c))
+      → MeansBy (broken_by tests k m) t k (Err (cell_answer reasons k i c))
   unfolding MeansBy cell_test cell_answer
   group-least numbered i c s =
       let number = number_of (get_or (reasons i (c / 10)) (c % 10) LongFile10) in
@@ -119,7 +119,7 @@ module _ (t : ℕ) (tests : ℕ → Tests) (reasons : Reasons) (k : Kind) (m : �
       go none e = group-clear (none-cells (cell_test (tests t)) (cell_answer reasons k) m (cells_of k) e)
       go (some b) e =
           let r = some-cells (cell_test (tests t)) (cell_answer reasons k) m (cells_of k) e in
-          subst (λ (x : Break). MeansBy (broken_by tests k m) t k (Broken x)) r.3 (group-least numbered r.0 r.1 r.2)
+          subst (λ (x : Break). MeansBy (broken_by tests k m) t k (Err x)) r.3 (group-least numbered r.0 r.1 r.2)
 
 -- THE THIRTIES AND FORTIES; no other ten has a test
 pub key-numbered : (t : ℕ) (d : Delivery) (k : Kind) → Numbered t (λ t'. key_tests t' d k) (key_reasons t d k) k (d k).count
@@ -140,8 +140,8 @@ keys-means t d k = group-means t (λ t'. key_tests t' d k) (key_reasons t d k) k
 
 -- OVER THE FILES
 file_in : Which → ℕ
-file_in NoFile = 0
-file_in (File k) = file_of k
+file_in None = 0
+file_in (Some k) = file_of k
 
 file-which-all : any (λ n. not (eqb (file_in (which_of n)) n)) (file_count + 1) ≡ false
 unfolding which_of any first_index first_of file_in
@@ -150,19 +150,19 @@ file-which-all = refl
 file-which : (n : ℕ) → n < file_count + 1 → file_in (which_of n) ≡ n
 file-which n l = eqb-true _ _ (not-false _ (any-no _ (file_count + 1) file-which-all l))
 
-pub break-none : (v : Finding) → break_in v ≡ none → v ≡ Fine
-break-none Fine e = refl
-break-none (Broken b) e = absurd (some-none e)
+pub break-none : (v : Finding) → break_in v ≡ none → v ≡ Ok tt
+break-none (Ok u) e = refl
+break-none (Err b) e = absurd (some-none e)
 
-pub break-some : (v : Finding) {b : Break} → break_in v ≡ some b → v ≡ Broken b
-break-some Fine e = absurd (some-none (sym e))
-break-some (Broken b) e = cc
+pub break-some : (v : Finding) {b : Break} → break_in v ≡ some b → v ≡ Err b
+break-some (Ok u) e = absurd (some-none (sym e))
+break-some (Err b) e = cc
 
-finding-none : (o : Option Break) → finding_of o ≡ Fine → o ≡ none
+finding-none : (o : Option Break) → finding_of o ≡ Ok tt → o ≡ none
 finding-none none e = refl
 finding-none (some b) e = let z : ◌≡◌ {A = ℕ} 0 1 = cc in absurd (omega arith)
 
-pub finding-some : (o : Option Break) {b : Break} → finding_of o ≡ Broken b → o ≡ some b
+pub finding-some : (o : Option Break) {b : Break} → finding_of o ≡ Err b → o ≡ some b
 finding-some none e = let z : ◌≡◌ {A = ℕ} 0 1 = cc in absurd (omega arith)
 finding-some (some b) e = cc
 
@@ -170,16 +170,16 @@ module _ (g : Kind → Finding) where
   at_own : (k : Kind) → break_in (at_file g (which_of (file_of k))) ≡ break_in (g k)
   at_own k = rw which-file
 
-  pub over-fine : over_files g ≡ Fine → (k : Kind) → g k ≡ Fine
+  pub over-fine : over_files g ≡ Ok tt → (k : Kind) → g k ≡ Ok tt
   unfolding over_files
   over-fine e k = break-none (g k) (sym (at_own k) ∙ none-at _ (file_count + 1) (finding-none _ e) (omega (arith, sane k)))
 
-  in-file : {b : Break} (n : ℕ) (w : Which) → which_of n ≡ w → n < file_count + 1 → break_in (at_file g w) ≡ some b → (k : Kind) × (file_of k ≡ n) × (g k ≡ Broken b)
+  in-file : {b : Break} (n : ℕ) (w : Which) → which_of n ≡ w → n < file_count + 1 → break_in (at_file g w) ≡ some b → (k : Kind) × (file_of k ≡ n) × (g k ≡ Err b)
   unfolding file_in
-  in-file n NoFile q l e = absurd (some-none (sym e))
-  in-file n (File k) q l e = (k, sym (ap file_in q) ∙ file-which n l, break-some (g k) e)
+  in-file n None q l e = absurd (some-none (sym e))
+  in-file n (Some k) q l e = (k, sym (ap file_in q) ∙ file-which n l, break-some (g k) e)
 
-  pub over-broken : {b : Break} → over_files g ≡ Broken b → (k : Kind) × (g k ≡ Broken b) × ((k' : Kind) → file_of k' < file_of k → g k' ≡ Fine)
+  pub over-broken : {b : Break} → over_files g ≡ Err b → (k : Kind) × (g k ≡ Err b) × ((k' : Kind) → file_of k' < file_of k → g k' ≡ Ok tt)
   unfolding over_files
   over-broken {b} e =
       let r = some_at _ (file_count + 1) (finding-some _ e) in

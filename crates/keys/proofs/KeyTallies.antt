@@ -16,7 +16,8 @@ use Rattle.laws.specs.Count.{how_many}
 use Rattle.laws.specs.Row.{row, each}
 use Rattle.laws.proofs.FindLaws.{true-false}
 use Rattle.laws.proofs.RowLaws.{and-true}
-use Rattle.index.specs.declared.Found.{Found}
+use Rattle.std.specs.Prelude.{Option, Some, None}
+use Rattle.index.specs.declared.tally.First.{First}
 use Rattle.index.specs.declared.tally.Tally.{Tally}
 use Rattle.index.specs.Keys.{found_of, listed, first_duplicate}
 use Rattle.index.specs.Marks.{Marked, is_marked}
@@ -24,12 +25,12 @@ use Rattle.index.specs.Tally.{no_tally, with_cell}
 use Rattle.index.proofs.TallyLaws.{marked-many}
 use Rattle.record.specs.declared.kind.Kind.{Kind}
 use Rattle.record.specs.declared.kind.Kind.TheVariants.{Catalogo, Nodo}
-use Rattle.record.specs.declared.kind.Which.{Which}
+use Rattle.record.specs.Table.{Which}
 use Rattle.record.specs.declared.kind.Target.{Target}
 use Rattle.record.specs.declared.kind.Target.TheVariants.{Free, Nowhere, To}
 use Rattle.record.specs.declared.reason.Reason.TheVariants.{LongFile10}
 use Rattle.record.specs.declared.reason.Break.{Break}
-use Rattle.record.specs.declared.reason.Finding.TheVariants.{Fine, Broken}
+use Rattle.std.specs.Prelude.{Ok, Err}
 use Rattle.record.specs.Breaks.{break_of}
 use Rattle.record.specs.Table.{Col, col_at, keys_of, fields_of, file_of, file_count, which_of, target_of, letter_of, kinds, limit}
 use Rattle.record.specs.Says.{Table, table_of}
@@ -82,7 +83,7 @@ module _ (k : Kind) (own : Table) where
       (λ i c' _ lo hi. repeat-quiet i (c' / 10) (c' % 10) (λ h z. absurd (omega arith))) here)
 
   pub repeat-tally :
-      {keys before marks : List ℕ} {n m c : ℕ} {found : Found} {many : ℕ} {t r : Tally} → Fills keys (λ i. key_of k own i) n m
+      {keys before marks : List ℕ} {n m c : ℕ} {found : Option ℕ} {many : ℕ} {t r : Tally} → Fills keys (λ i. key_of k own i) n m
       → Marked before marks (λ i. names (listed keys) i (get_or keys i 0)) m → found ≡ found_of (first_duplicate (listed keys) m)
       → many ≡ how_many (is_marked marks) m → t ≡ no_tally → c ≡ keys_of k → r ≡ with_cell t found many (c * 10) → r ≡ tally_in (repeat_tests k own) k n
   repeat-tally {marks = marks} {n = n} {c = c} {found} {many} fills s f h e q w =
@@ -237,17 +238,17 @@ module _ (t : ℕ) (d : Delivery) where
 
 -- THE FINDING of a file from its tally
 module _ (t : ℕ) (d : Delivery) (k : Kind) {tally : Tally} (e : tally ≡ key_tally t d k) where
-  pub key_row : tally.found ≡ true → tally.at < (d k).count
+  pub key_row : {f : First} → tally.first ≡ Some f → f.at < (d k).count
   unfolding key_tally
   key_row h = tally-row (key_tests t d k) k (d k).count e h
 
   pub key-broken :
-      {x : Break} → tally.found ≡ true
-      → x ≡ break_of (get_or (key_reasons t d k tally.at (tally.cell / 10)) (tally.cell % 10) LongFile10) k (tally.at + 1) (tally.cell / 10)
-      → Broken x ≡ keys_in t d k
+      {f : First} {x : Break} → tally.first ≡ Some f
+      → x ≡ break_of (get_or (key_reasons t d k f.at (f.cell / 10)) (f.cell % 10) LongFile10) k (f.at + 1) (f.cell / 10)
+      → Err x ≡ keys_in t d k
   unfolding key_tally keys_in
   key-broken h q = tally-broken (key_tests t d k) k (d k).count e (key_reasons t d k) h q
 
-  pub key-fine : tally.found ≡ false → Fine ≡ keys_in t d k
+  pub key-fine : tally.first ≡ None → Ok tt ≡ keys_in t d k
   unfolding key_tally keys_in
   key-fine h = tally-fine (key_tests t d k) k (d k).count e (key_reasons t d k) h

@@ -16,8 +16,7 @@ use Rattle.laws.proofs.FindLaws.{true-false, index-none, index-none-at, any_same
 use Rattle.index.specs.Keys.{listed, first_duplicate}
 use Rattle.index.specs.Look.{Sought}
 use Rattle.index.specs.declared.tally.Tally.{Tally}
-use Rattle.index.specs.declared.Found.{Found}
-use Rattle.index.specs.declared.Found.TheVariants.{At, Nothing}
+use Rattle.std.specs.Prelude.{Option, Some, None}
 use Rattle.index.proofs.OrderLaws.{less-or}
 use Rattle.index.proofs.LookLaws.{sought-record, sought-yes, sought-none}
 use Rattle.record.specs.declared.kind.Kind.TheVariants.{Catalogo}
@@ -95,32 +94,32 @@ and-false true = refl
 and-false false = refl
 
 -- A NAME that was looked up dangles where it isn't missing and was not found
-pub missed-dangles : (keys : List ℕ) (n x : ℕ) (f : Found) → Sought keys n x f → is_missed f x ≡ dangles (listed keys) n x
+pub missed-dangles : (keys : List ℕ) (n x : ℕ) (f : Option ℕ) → Sought keys n x f → is_missed f x ≡ dangles (listed keys) n x
 unfolding dangles
-missed-dangles keys n x Nothing s = rw (← sought-none keys n x s refl) (sym (and_one (not (eqb x 0))))
-missed-dangles keys n x (At j) s = rw (← sought-yes keys n x s refl) (sym (and-false (not (eqb x 0))))
+missed-dangles keys n x None s = rw (← sought-none keys n x s refl) (sym (and_one (not (eqb x 0))))
+missed-dangles keys n x (Some j) s = rw (← sought-yes keys n x s refl) (sym (and-false (not (eqb x 0))))
 
 -- A CODE of another type than the one wanted, by the columns of codes and letters, where f is what a look-up of the code says
-module _ (keys letters : List ℕ) (n wanted x : ℕ) {f : Found} (s : Sought keys n x f) where
-  pub mistyped-none : f ≡ Nothing → false ≡ mistyped_by keys letters n wanted x
+module _ (keys letters : List ℕ) (n wanted x : ℕ) {f : Option ℕ} (s : Sought keys n x f) where
+  pub mistyped-none : f ≡ None → false ≡ mistyped_by keys letters n wanted x
   unfolding mistyped_by
   mistyped-none e = rw (← sought-none keys n x s e)
 
-  pub mistyped-found : {j : ℕ} → f ≡ At j → mistyped_by keys letters n wanted x ≡ not (typed_by keys letters n wanted x)
+  pub mistyped-found : {j : ℕ} → f ≡ Some j → mistyped_by keys letters n wanted x ≡ not (typed_by keys letters n wanted x)
   unfolding mistyped_by
   mistyped-found e = rw (← sought-yes keys n x s e)
 
-  typed-found : {j : ℕ} → f ≡ At j → get_or letters j 0 ≡ wanted → typed_by keys letters n wanted x ≡ true
+  typed-found : {j : ℕ} → f ≡ Some j → get_or letters j 0 ≡ wanted → typed_by keys letters n wanted x ≡ true
   unfolding typed_by
   typed-found {j} e h =
       let r = sought-record keys n x s e in
       any-true _ _ r.0 (rw (eq-eqb (get_or keys j 0) x r.1, eq-eqb _ _ h))
 
-  pub mistyped-typed : {j : ℕ} → f ≡ At j → get_or letters j 0 ≡ wanted → false ≡ mistyped_by keys letters n wanted x
+  pub mistyped-typed : {j : ℕ} → f ≡ Some j → get_or letters j 0 ≡ wanted → false ≡ mistyped_by keys letters n wanted x
   mistyped-typed e h = rw (mistyped-found e, typed-found e h)
 
   -- where keys are apart, the record that is found is the only one with the code
-  typed-only : {j : ℕ} → f ≡ At j → first_duplicate (listed keys) n ≡ none → (get_or letters j 0 ≡ wanted → ⊥) → typed_by keys letters n wanted x ≡ false
+  typed-only : {j : ℕ} → f ≡ Some j → first_duplicate (listed keys) n ≡ none → (get_or letters j 0 ≡ wanted → ⊥) → typed_by keys letters n wanted x ≡ false
   unfolding typed_by
   typed-only {j} e d h = any_false _ n (λ i u. go i u (ℕ_discrete i j))
     where
@@ -130,7 +129,7 @@ module _ (keys letters : List ℕ) (n wanted x : ℕ) {f : Found} (s : Sought ke
           let r = sought-record keys n x s e in
           rw (ne_eqb (get_or keys i 0) x (λ w. apart-two (listed keys) n d u r.0 q (w ∙ sym r.1)))
 
-  pub mistyped-apart : {j : ℕ} → f ≡ At j → first_duplicate (listed keys) n ≡ none → (get_or letters j 0 ≡ wanted → ⊥) → true ≡ mistyped_by keys letters n wanted x
+  pub mistyped-apart : {j : ℕ} → f ≡ Some j → first_duplicate (listed keys) n ≡ none → (get_or letters j 0 ≡ wanted → ⊥) → true ≡ mistyped_by keys letters n wanted x
   mistyped-apart e d h = rw (mistyped-found e, typed-only e d h)
 
 -- and by the catalogue, which the columns are read of

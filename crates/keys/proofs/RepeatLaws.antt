@@ -9,7 +9,7 @@ use lib.ListN.{get_or}
 use Rattle.laws.specs.Find.{first_index, names}
 use Rattle.laws.specs.Count.{bit}
 use Rattle.laws.proofs.FindLaws.{any_same}
-use Rattle.index.specs.declared.Found.{Found}
+use Rattle.std.specs.Prelude.{Option}
 use Rattle.index.specs.Keys.{found_of, listed, first_duplicate}
 use Rattle.index.specs.Marks.{Marked}
 use Rattle.index.proofs.TwiceLaws.{duplicate-filled}
@@ -18,7 +18,7 @@ use Rattle.keys.specs.Rules.{repeats}
 
 -- what is found in the array is the column's
 pub first-filled :
-    {out : List ℕ} (column : ℕ → ℕ) {n r : ℕ} {found : Found} → Fills out column n r → found ≡ found_of (first_duplicate (listed out) r)
+    {out : List ℕ} (column : ℕ → ℕ) {n r : ℕ} {found : Option ℕ} → Fills out column n r → found ≡ found_of (first_duplicate (listed out) r)
     → found ≡ found_of (first_index (λ i. repeats column i) n)
 unfolding repeats
 first-filled {out} column {n} f h = h ∙ rw f.count (ap found_of (duplicate-filled column out n f.holds))

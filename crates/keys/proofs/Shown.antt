@@ -7,7 +7,7 @@ use lib.ListN.{get_or}
 use Rattle.record.specs.declared.kind.Kind.{Kind}
 use Rattle.record.specs.declared.reason.Reason.TheVariants.{LongFile10}
 use Rattle.record.specs.declared.reason.Break.{Break}
-use Rattle.record.specs.declared.reason.Finding.TheVariants.{Broken}
+use Rattle.std.specs.Prelude.{Err}
 use Rattle.record.specs.Breaks.{number_of, break_of}
 use Rattle.record.specs.Files.{Delivery}
 use Rattle.keys.specs.Rules.{key_tests, key_reasons}
@@ -31,7 +31,7 @@ module _ (t : ℕ) (tests : ℕ → Tests) (reasons : Reasons) (k : Kind) (m : �
       let y : number_of (get_or (reasons i (c / 10)) (c % 10) LongFile10) % 10 ≡ c % 10 = omega arith in
       rw (x, y)
 
-  pub group-shown : Numbered t tests reasons k m → {b : Break} → group_finding (tests t) reasons k m ≡ Broken b → ShownBy reasons k b
+  pub group-shown : Numbered t tests reasons k m → {b : Break} → group_finding (tests t) reasons k m ≡ Err b → ShownBy reasons k b
   unfolding cell_test cell_answer
   group-shown numbered {b} e =
       let r = some-cells (cell_test (tests t)) (cell_answer reasons k) m (cells_of k) (finding-some _ (sym (group-is (tests t) reasons k m) ∙ e)) in
@@ -39,6 +39,6 @@ module _ (t : ℕ) (tests : ℕ → Tests) (reasons : Reasons) (k : Kind) (m : �
       let c = r.1 in
       subst (λ (x : Break). ShownBy reasons k x) r.3 (cell-shown i c (numbered i (c / 10) (c % 10) (omega arith) r.2.holds))
 
-pub keys-shown : (t : ℕ) (d : Delivery) (k : Kind) {b : Break} → keys_in t d k ≡ Broken b → ShownBy (key_reasons t d k) k b
+pub keys-shown : (t : ℕ) (d : Delivery) (k : Kind) {b : Break} → keys_in t d k ≡ Err b → ShownBy (key_reasons t d k) k b
 unfolding keys_in
 keys-shown t d k e = group-shown t (λ t'. key_tests t' d k) (key_reasons t d k) k (d k).count (key-numbered t d k) e

@@ -4,7 +4,6 @@
 use Prim.Native.Nat.{ℕ, ◌+◌, ◌<◌, ◌≤◌}
 use mathlib.Core.Bool.{Bool, true, false, not, ◌&&◌, ◌||◌}
 use mathlib.Core.List.{List}
-use mathlib.Core.Option.{none}
 use mathlib.Core.Path.{◌≡◌, refl, sym, ap, subst, ◌∙◌}
 use native.Mathlib.Decide.{ℕ_discrete}
 use native.Mathlib.Omega.{arith}
@@ -16,13 +15,11 @@ use borrow.Author.Tests.{eq-eqb, ne_eqb, eqb-true}
 use Rattle.laws.specs.Find.{any}
 use Rattle.laws.specs.Count.{bit}
 use Rattle.laws.proofs.FindLaws.{true-false, any-more, any-true, any_false}
-use Rattle.index.specs.Keys.{listed, first_duplicate}
 use Rattle.index.specs.Look.{Sought}
 use Rattle.index.specs.Marks.{Marked}
 use Rattle.index.specs.Way.{look_of, or_zero}
-use Rattle.index.specs.declared.Found.{Found}
-use Rattle.index.specs.declared.Found.TheVariants.{At, Nothing}
-use Rattle.index.specs.declared.way.Way.{Way}
+use Rattle.std.specs.Prelude.{Option, Some, None}
+use Rattle.index.specs.declared.way.Lookup.{Lookup}
 use Rattle.index.proofs.LookLaws.{sought-record}
 use Rattle.record.specs.Says.{Table, letter_in}
 use Rattle.keys.specs.machinery.Types.{Letters, typed_by, mistyped_by, is_other, Typing, Types}
@@ -53,7 +50,7 @@ module _ (keys order hints : List ℕ) (t : Bool) (n : ℕ) (test : ℕ → Bool
       }
 
   -- a record's key was looked up, and what was found is marked where it was before or the test holds
-  module _ {types : List ℕ} {i r x : ℕ} {f : Found} (s : Typing keys order hints t n test types i) (q : Sought keys n (get_or keys i 0) f) (w : f ≡ look_of keys order hints t n (get_or keys i 0)) (e : f ≡ At r)
+  module _ {types : List ℕ} {i r x : ℕ} {f : Option ℕ} (s : Typing keys order hints t n test types i) (q : Sought keys n (get_or keys i 0) f) (w : f ≡ look_of keys order hints t n (get_or keys i 0)) (e : f ≡ Some r)
       (v : x ≡ bit (eqb (get_or types r 0) 1 || test i)) where
     inside : (r < n) × (get_or keys r 0 ≡ get_or keys i 0)
     inside = sought-record keys n (get_or keys i 0) q e
@@ -83,12 +80,12 @@ module _ (keys order hints : List ℕ) (t : Bool) (n : ℕ) (test : ℕ → Bool
         ap (λ (k : ℕ). get_or (set types r x) k 0) z ∙ written ∙ ap bit (or_left _ _ (eq-eqb _ _ old))
     whole-old p (no z) h = kept p z ∙ h
 
-    whole_here : (p : ℕ) → test i ≡ true → look_of keys order hints t n (get_or keys i 0) ≡ At p → get_or (set types r x) p 0 ≡ 1
+    whole_here : (p : ℕ) → test i ≡ true → look_of keys order hints t n (get_or keys i 0) ≡ Some p → get_or (set types r x) p 0 ≡ 1
     whole_here p h y =
         let same : p ≡ r = ap or_zero (sym y ∙ sym w ∙ e) in
         ap (λ (k : ℕ). get_or (set types r x) k 0) same ∙ written ∙ ap bit (ap (λ (b : Bool). eqb (get_or types r 0) 1 || b) h ∙ or-true (eqb (get_or types r 0) 1))
 
-    whole-at : (j p : ℕ) → j < i + 1 → Dec (j ≡ i) → test j ≡ true → look_of keys order hints t n (get_or keys j 0) ≡ At p → get_or (set types r x) p 0 ≡ 1
+    whole-at : (j p : ℕ) → j < i + 1 → Dec (j ≡ i) → test j ≡ true → look_of keys order hints t n (get_or keys j 0) ≡ Some p → get_or (set types r x) p 0 ≡ 1
     whole-at j p l (yes z) h y = whole_here p (ap test (sym z) ∙ h) (ap (λ (k : ℕ). look_of keys order hints t n (get_or keys k 0)) (sym z) ∙ y)
     whole-at j p l (no z) h y = whole-old p (ℕ_discrete p r) (s.whole j p (omega (arith, z)) h y)
 
@@ -101,30 +98,21 @@ module _ (keys order hints : List ℕ) (t : Bool) (n : ℕ) (test : ℕ → Bool
         }
 
 -- a key is found by its own look-up
-pub own-found : (keys : List ℕ) (n : ℕ) {i : ℕ} {f : Found} → i < n → Sought keys n (get_or keys i 0) f → f ≡ Nothing → ⊥
+pub own-found : (keys : List ℕ) (n : ℕ) {i : ℕ} {f : Option ℕ} → i < n → Sought keys n (get_or keys i 0) f → f ≡ None → ⊥
 unfolding Sought
-own-found keys n {i} l q e = subst (λ (g : Found). Sought keys n (get_or keys i 0) g) e q i l refl
+own-found keys n {i} l q e = subst (λ (g : Option ℕ). Sought keys n (get_or keys i 0) g) e q i l refl
 
 -- THE END
-module _ (keys order hints : List ℕ) (way : Way) (n : ℕ) (test : ℕ → Bool) where
-  pub types-apart : (types : List ℕ) → n ≤ length types → way.apart ≡ true → Types keys order hints way n test types
-  types-apart types l e = record { room = l; typing = λ q. absurd (true-false (sym e ∙ q)) }
+module _ (l : Lookup) (test : ℕ → Bool) where
+  pub types-apart : (types : List ℕ) → l.n ≤ length types → l.way.apart ≡ true → Types l test types
+  types-apart types u e = record { room = u; typing = λ q. absurd (true-false (sym e ∙ q)) }
 
-  pub types-end : {types : List ℕ} {i : ℕ} → i ≤ n → n ≤ i → Typing keys order hints way.hinted n test types i → Types keys order hints way n test types
-  types-end {types} {i} u l s =
-      let same : i ≡ n = omega arith in
-      record {
-        room = s.room;
-        typing = λ q. record {
-          room = s.room;
-          sound = λ r v e. ap (any (λ j. eqb (get_or keys j 0) (get_or keys r 0) && test j)) (sym same) ∙ s.sound r v e;
-          whole = λ j r v. s.whole j r (omega arith);
-        };
-      }
+  pub types-end : {types : List ℕ} {i : ℕ} → i ≤ l.n → l.n ≤ i → Typing l.keys.now l.order.now l.hints.now l.way.hinted l.n test types i → Types l test types
+  types-end {types} {i} u v s = let same : i ≡ l.n = omega arith in record { room = s.room; typing = λ q. rw same at s }
 
 -- A CODE, where f is what a look-up of it says: the mark of the record that is found is whether the code is catalogued under the type
-module _ (keys letters : List ℕ) {n : ℕ} (wanted x : ℕ) {f : Found} (q : Sought keys n x f) {order hints types : List ℕ} {t : Bool}
-    (w : f ≡ look_of keys order hints t n x) (s : Typing keys order hints t n (λ j. eqb (get_or letters j 0) wanted) types n) {r : ℕ} (e : f ≡ At r) where
+module _ (keys letters : List ℕ) {n : ℕ} (wanted x : ℕ) {f : Option ℕ} (q : Sought keys n x f) {order hints types : List ℕ} {t : Bool}
+    (w : f ≡ look_of keys order hints t n x) (s : Typing keys order hints t n (λ j. eqb (get_or letters j 0) wanted) types n) {r : ℕ} (e : f ≡ Some r) where
   record_of_lem : (r < n) × (get_or keys r 0 ≡ x)
   record_of_lem = sought-record keys n x q e
 
@@ -150,21 +138,21 @@ module _ (keys letters : List ℕ) {n : ℕ} (wanted x : ℕ) {f : Found} (q : S
 
 -- and so does the code's own record, where it has the type or is the only one
 pub other-mistyped :
-    (keys letters order hints : List ℕ) (way : Way) (n wanted x : ℕ) (f : Found) {types : List ℕ} → Sought keys n x f
-    → f ≡ look_of keys order hints way.hinted n x → (way.apart ≡ true → first_duplicate (listed keys) n ≡ none)
-    → Types keys order hints way n (λ j. eqb (get_or letters j 0) wanted) types → is_other f letters way.apart types wanted ≡ mistyped_by keys letters n wanted x
-other-mistyped keys letters order hints way n wanted x Nothing q w d s = mistyped-none keys letters n wanted x q refl
-other-mistyped keys letters order hints way n wanted x (At r) {types} q w d s = own (ℕ_discrete (get_or letters r 0) wanted)
+    (letters : List ℕ) (l : Lookup) (wanted x : ℕ) (f : Option ℕ) {types : List ℕ} → Sought l.keys.now l.n x f
+    → f ≡ look_of l.keys.now l.order.now l.hints.now l.way.hinted l.n x
+    → Types l (λ j. eqb (get_or letters j 0) wanted) types → is_other f letters l.way.apart types wanted ≡ mistyped_by l.keys.now letters l.n wanted x
+other-mistyped letters l wanted x None q w s = mistyped-none l.keys.now letters l.n wanted x q refl
+other-mistyped letters l wanted x (Some r) {types} q w s = own (ℕ_discrete (get_or letters r 0) wanted)
   where
-    only : (b : Bool) → way.apart ≡ b → (get_or letters r 0 ≡ wanted → ⊥) → (b || not (eqb (get_or types r 0) 1)) ≡ mistyped_by keys letters n wanted x
-    only true e h = mistyped-apart keys letters n wanted x q refl (d e) h
-    only false e h = mistyped-marked keys letters wanted x q w (s.typing e) refl
+    only : (b : Bool) → l.way.apart ≡ b → (get_or letters r 0 ≡ wanted → ⊥) → (b || not (eqb (get_or types r 0) 1)) ≡ mistyped_by l.keys.now letters l.n wanted x
+    only true e h = mistyped-apart l.keys.now letters l.n wanted x q refl (l.ready.apart e) h
+    only false e h = mistyped-marked l.keys.now letters wanted x q w (s.typing e) refl
 
     own :
         Dec (get_or letters r 0 ≡ wanted)
-        → (not (eqb (get_or letters r 0) wanted) && (way.apart || not (eqb (get_or types r 0) 1))) ≡ mistyped_by keys letters n wanted x
-    own (yes h) = rw (eq-eqb (get_or letters r 0) wanted h) (mistyped-typed keys letters n wanted x q refl h)
-    own (no h) = rw (ne_eqb (get_or letters r 0) wanted h) (only way.apart refl h)
+        → (not (eqb (get_or letters r 0) wanted) && (l.way.apart || not (eqb (get_or types r 0) 1))) ≡ mistyped_by l.keys.now letters l.n wanted x
+    own (yes h) = rw (eq-eqb (get_or letters r 0) wanted h) (mistyped-typed l.keys.now letters l.n wanted x q refl h)
+    own (no h) = rw (ne_eqb (get_or letters r 0) wanted h) (only l.way.apart refl h)
 
 -- LETTERS, read one by one: none is, one more is, all are
 pub record Spelt (cat : Table) (out : List ℕ) (j : ℕ) : Type 0 where

@@ -2,5 +2,6 @@
 #![tactic(auto)]
 
 pub mod group;
+pub mod over;
 pub mod refer;
 pub mod repeat;

@@ -3,10 +3,9 @@ ghost use Rattle.std.specs.Prelude.{◌≡◌, ℕ, ◌≤◌, length};
 ghost use Rattle.record.specs.Says.{table_of};
 ghost use Rattle.keys.specs.machinery.Cells.{tally_in, repeat_tests};
 
-use index::numbers::mark_repeats;
 use index::tally::{Tally, count_marked, no_tally, with_cell};
 use index::twice::repeat_in;
-use index::way::prepare;
+use index::way::Lookup;
 use record::fill::fill_keys;
 use record::kind::Kind;
 
@@ -23,8 +22,7 @@ pub(crate) fn tally_repeats(
     ensures { result ≡ tally_in (repeat_tests k (table_of s.now k)) k (table_of s.now k).count }
 {
     let n = fill_keys(s, k, keys);
-    let way = prepare(keys, n, hints, order);
-    mark_repeats(keys, order, hints, way, n, marks);
+    Lookup::prepare(keys, n, hints, order).mark_repeats(marks);
     let found = repeat_in(keys, marks, n);
     let many = count_marked(marks, n);
     with_cell(no_tally(), found, many, k.keys() * 10)

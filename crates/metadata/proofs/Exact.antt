@@ -11,17 +11,18 @@ use native.Mathlib.Nat.{not-suc-le-zero}
 use native.Mathlib.Omega.{arith}
 use lib.Dec.{ltb, leb}
 use lib.ListN.{length, get_or}
+use Rattle.std.specs.Prelude.{Result, Ok, Err}
 use Rattle.laws.specs.Row.{pick}
 use Rattle.laws.specs.Find.{first_of, first_index}
 use Rattle.laws.proofs.FindLaws.{some-none, none-at, some_at, index-none-at, index-some-at}
 use Rattle.metadata.specs.declared.told.Told.{Told}
-use Rattle.metadata.specs.declared.told.Cut.{Cut}
-use Rattle.metadata.specs.declared.told.Cut.TheVariants.{Lines, Long}
-use Rattle.metadata.specs.declared.told.Fault.{Fault}
-use Rattle.metadata.specs.declared.told.Fault.TheVariants.{Right, At}
+use Rattle.metadata.specs.declared.fault.Reason.{Reason}
+use Rattle.metadata.specs.declared.fault.Reason.TheVariants.{LongLine80}
+use Rattle.metadata.specs.declared.fault.Fault.{Fault}
 use Rattle.metadata.specs.Lines.{Line, lines_of, most_lines, longest, cut_from, cut_of, told_in}
-use Rattle.metadata.specs.Rules.{fault_at, breaks, or_right, told_fault, cut_fault, fault_of}
-use Rattle.metadata.proofs.ColumnLaws.{long-lines}
+use Rattle.metadata.specs.Faults.{number_of, at_line, fault_at, or_right}
+use Rattle.metadata.specs.Rules.{breaks, reason_of, told_fault, cut_fault, fault_of}
+use Rattle.metadata.proofs.CutLaws.{Long}
 use Rattle.metadata.proofs.RuleLaws.{fault_by}
 
 -- 80: line i + 1 of those that n lines stand before
@@ -34,9 +35,6 @@ breaks80 n ls i = leb most_lines (n + i) || ltb longest (length (get_or ls i no_
 later-80 : (n : ℕ) (x : Line) (ls : List Line) (i : ℕ) → breaks80 (n + 1) ls i ≡ breaks80 n (x ∷ ls) (suc i)
 later-80 n x ls i = let e : n + 1 + i ≡ n + suc i = omega arith in rw e
 
-long_same : {a b : ℕ} → Long a ≡ Long b → a ≡ b
-long_same e = cc
-
 -- the line that is told is the first,
 pub record Reached (n : ℕ) (ls : List Line) (l i : ℕ) : Type 0 where
   pub place : l ≡ n + i + 1
@@ -44,29 +42,35 @@ pub record Reached (n : ℕ) (ls : List Line) (l i : ℕ) : Type 0 where
   pub broken : breaks80 n ls i ≡ true
   pub before : (j : ℕ) → j < i → breaks80 n ls j ≡ false
 
-pub cut-long : (n : ℕ) (ls : List Line) (l : ℕ) → cut_from n ls ≡ Long l → (i : ℕ) × Reached n ls l i
+pub cut-long : (n : ℕ) (ls : List Line) (fault : Fault) → cut_from n ls ≡ Err fault → (fault.reason ≡ LongLine80) × ((i : ℕ) × Reached n ls fault.line i)
 unfolding cut_from
-cut-long n [] l e = absurd (long-lines (sym e))
-cut-long n (x ∷ ls) l e = go (leb most_lines (n + 0) || ltb longest (length x.bytes)) refl (rw (← zero_more) at e) (cut-long (n + 1) ls l)
+cut-long n [] fault e = cc
+cut-long n (x ∷ ls) fault e = go (leb most_lines (n + 0) || ltb longest (length x.bytes)) refl (rw (← zero_more) at e) (cut-long (n + 1) ls fault)
   where
     zero_more : n + 0 ≡ n
     zero_more = omega arith
 
     go :
-        (b : Bool) → (leb most_lines (n + 0) || ltb longest (length x.bytes)) ≡ b → pick b (Long (n + 0 + 1)) (cut_from (n + 0 + 1) ls) ≡ Long l
-        → (cut_from (n + 1) ls ≡ Long l → (i : ℕ) × Reached (n + 1) ls l i) → (i : ℕ) × Reached n (x ∷ ls) l i
-    go true q h later = (0, record { place = sym (long_same h); there = omega arith; broken = q; before = λ j m. absurd (not-suc-le-zero m) })
+        (b : Bool) → (leb most_lines (n + 0) || ltb longest (length x.bytes)) ≡ b → pick b (Long (n + 0)) (cut_from (n + 0 + 1) ls) ≡ Err fault
+        → (cut_from (n + 1) ls ≡ Err fault → (fault.reason ≡ LongLine80) × ((i : ℕ) × Reached (n + 1) ls fault.line i))
+        → (fault.reason ≡ LongLine80) × ((i : ℕ) × Reached n (x ∷ ls) fault.line i)
+    go true q h later =
+        let same : fault ≡ at_line LongLine80 (n + 0 + 1) = cc in
+        (ap (λ (f : Fault). f.reason) same, (0, record { place = ap (λ (f : Fault). f.line) same; there = omega arith; broken = q; before = λ j m. absurd (not-suc-le-zero m) }))
     go false q h later =
         let r = later (rw zero_more at h) in
-        let i = r.0 in
-        let g = r.1 in (
-          suc i,
-          record {
-            place = omega (arith, g.place);
-            there = omega (arith, g.there);
-            broken = sym (later-80 n x ls i) ∙ g.broken;
-            before = before-all q g.before;
-          },
+        let i = r.1.0 in
+        let g = r.1.1 in (
+          r.0,
+          (
+            suc i,
+            record {
+              place = omega (arith, g.place);
+              there = omega (arith, g.there);
+              broken = sym (later-80 n x ls i) ∙ g.broken;
+              before = before-all q g.before;
+            },
+          ),
         )
       where
         before-all : {i : ℕ} → (leb most_lines (n + 0) || ltb longest (length x.bytes)) ≡ false → ((j : ℕ) → j < i → breaks80 (n + 1) ls j ≡ false) → (j : ℕ) → j < suc i → breaks80 n (x ∷ ls) j ≡ false
@@ -74,7 +78,7 @@ cut-long n (x ∷ ls) l e = go (leb most_lines (n + 0) || ltb longest (length x.
         before-all q g (suc j) m = sym (later-80 n x ls j) ∙ g j (omega arith)
 
 -- and where none is told, none is broken
-pub cut-lines : (n : ℕ) (ls : List Line) (k : ℕ) → cut_from n ls ≡ Lines k → (j : ℕ) → j < length ls → breaks80 n ls j ≡ false
+pub cut-lines : (n : ℕ) (ls : List Line) (k : ℕ) → cut_from n ls ≡ Ok k → (j : ℕ) → j < length ls → breaks80 n ls j ≡ false
 unfolding cut_from
 cut-lines n [] k e j m = absurd (not-suc-le-zero m)
 cut-lines n (x ∷ ls) k e j m = go (leb most_lines (n + 0) || ltb longest (length x.bytes)) refl (rw (← zero_more) at e) (cut-lines (n + 1) ls k) j m
@@ -83,30 +87,28 @@ cut-lines n (x ∷ ls) k e j m = go (leb most_lines (n + 0) || ltb longest (leng
     zero_more = omega arith
 
     go :
-        (b : Bool) → (leb most_lines (n + 0) || ltb longest (length x.bytes)) ≡ b → pick b (Long (n + 0 + 1)) (cut_from (n + 0 + 1) ls) ≡ Lines k
-        → (cut_from (n + 1) ls ≡ Lines k → (j : ℕ) → j < length ls → breaks80 (n + 1) ls j ≡ false) → (j : ℕ) → j < suc (length ls) → breaks80 n (x ∷ ls) j ≡ false
-    go true q h later j m = absurd (long-lines h)
+        (b : Bool) → (leb most_lines (n + 0) || ltb longest (length x.bytes)) ≡ b → pick b (Long (n + 0)) (cut_from (n + 0 + 1) ls) ≡ Ok k
+        → (cut_from (n + 1) ls ≡ Ok k → (j : ℕ) → j < length ls → breaks80 (n + 1) ls j ≡ false) → (j : ℕ) → j < suc (length ls) → breaks80 n (x ∷ ls) j ≡ false
+    go true q h later j m = cc
     go false q h later zero m = q
     go false q h later (suc j) m = sym (later-80 n x ls j) ∙ later (rw zero_more at h) j (omega arith)
 
--- FAULTS
-right-at : {r l : ℕ} → Right ≡ At r l → ⊥
-right-at e = let z : ◌≡◌ {A = ℕ} 0 1 = cc in omega arith
-
-at-reason : {r l r' l' : ℕ} → At r l ≡ At r' l' → (r ≡ r') × (l ≡ l')
-at-reason e = (cc, cc)
-
--- no search gives a line
-fault-index-none : (reason : ℕ) (o : Option ℕ) → fault_at reason o ≡ none → o ≡ none
+-- FAULTS: no search gives a line
+fault-index-none : (reason : Reason) (o : Option ℕ) → fault_at reason o ≡ none → o ≡ none
 fault-index-none reason none e = refl
 fault-index-none reason (some l) e = absurd (some-none e)
 
-fault-index-some : (reason : ℕ) (o : Option ℕ) {r l : ℕ} → fault_at reason o ≡ some (At r l) → (r ≡ reason) × (o ≡ some l)
+fault-index-some : (reason : Reason) (o : Option ℕ) {fault : Fault} → fault_at reason o ≡ some fault → (fault.reason ≡ reason) × (o ≡ some fault.line)
 fault-index-some reason none e = absurd (some-none (sym e))
-fault-index-some reason (some k) {r} {l} e =
-    let q : At reason k ≡ At r l = cc in
-    let p = at-reason q in
-    (sym p.0, ap some p.1)
+fault-index-some reason (some k) {fault} e = let q : at_line reason k ≡ fault = cc in rw (← q) (refl, refl)
+
+number_at : (k : ℕ) → k < 6 → number_of (reason_of k) ≡ 81 + k
+number_at zero l = refl
+number_at (suc zero) l = refl
+number_at (suc (suc zero)) l = refl
+number_at (suc (suc (suc zero))) l = refl
+number_at (suc (suc (suc (suc zero)))) l = refl
+number_at (suc (suc (suc (suc (suc k))))) l = let z : k ≡ 0 = omega arith in rw z
 
 module _ (counts sizes : List ℕ) (ts : List Told) where
   -- no test holds
@@ -122,58 +124,55 @@ module _ (counts sizes : List ℕ) (ts : List Told) where
     pub lines : (l' : ℕ) → l' < l → breaks counts sizes ts k l' ≡ false
 
   cleared : (n : ℕ) → first_of (fault_by counts sizes ts) n ≡ none → (k l : ℕ) → k < n → l < length ts + 1 → breaks counts sizes ts k l ≡ false
-  cleared n h k l a b = index-none-at (breaks counts sizes ts k) (length ts + 1) (fault-index-none (81 + k) _ (none-at (fault_by counts sizes ts) n h a)) b
+  cleared n h k l a b = index-none-at (breaks counts sizes ts k) (length ts + 1) (fault-index-none (reason_of k) _ (none-at (fault_by counts sizes ts) n h a)) b
 
-  pub told-right : told_fault counts sizes ts ≡ Right → Clean
+  pub told-right : told_fault counts sizes ts ≡ Ok tt → Clean
   unfolding told_fault
   told-right e = go (first_of (fault_by counts sizes ts) 6) refl e
     where
-      go : (o : Option Fault) → first_of (fault_by counts sizes ts) 6 ≡ o → or_right o ≡ Right → Clean
+      go : (o : Option Fault) → first_of (fault_by counts sizes ts) 6 ≡ o → or_right o ≡ Ok tt → Clean
       go none q h = cleared 6 q
-      go (some Right) q h =
-          let s = some_at (fault_by counts sizes ts) 6 q in
-          absurd (never (first_index (breaks counts sizes ts s.0) (length ts + 1)) s.2)
-        where
-          never : (o : Option ℕ) → fault_at (81 + (some_at (fault_by counts sizes ts) 6 q).0) o ≡ some Right → ⊥
-          never none w = some-none (sym w)
-          never (some l) w = let z : At (81 + (some_at (fault_by counts sizes ts) 6 q).0) l ≡ Right = cc in right-at (sym z)
-      go (some (At r l)) q h = absurd (right-at (sym h))
+      go (some fault) q h = cc
 
-  pub told_at : (r l : ℕ) → told_fault counts sizes ts ≡ At r l → (k : ℕ) × (r ≡ 81 + k) × First k l
+  pub told_at : (r : Reason) (l : ℕ) → told_fault counts sizes ts ≡ Err (at_line r l) → (k : ℕ) × (number_of r ≡ 81 + k) × First k l
   unfolding told_fault
   told_at r l e = go (first_of (fault_by counts sizes ts) 6) refl e
     where
-      go : (o : Option Fault) → first_of (fault_by counts sizes ts) 6 ≡ o → or_right o ≡ At r l → (k : ℕ) × (r ≡ 81 + k) × First k l
-      go none q h = absurd (right-at h)
+      go : (o : Option Fault) → first_of (fault_by counts sizes ts) 6 ≡ o → or_right o ≡ Err (at_line r l) → (k : ℕ) × (number_of r ≡ 81 + k) × First k l
+      go none q h = cc
       go (some fault) q h =
-          let s = some_at (fault_by counts sizes ts) 6 (q ∙ ap some h) in
-          let f = fault-index-some (81 + s.0) (first_index (breaks counts sizes ts s.0) (length ts + 1)) s.2 in
+          let same : fault ≡ at_line r l = cc in
+          let s = some_at (fault_by counts sizes ts) 6 (q ∙ ap some same) in
+          let f = fault-index-some (reason_of s.0) (first_index (breaks counts sizes ts s.0) (length ts + 1)) s.2 in
           let i = index-some-at (breaks counts sizes ts s.0) (length ts + 1) f.1 in
-          (s.0, f.0, record { rule = s.1; line = i.0; broken = i.1; rules = cleared s.0 s.3; lines = i.2 })
+          (s.0, ap number_of f.0 ∙ number_at s.0 s.1, record { rule = s.1; line = i.0; broken = i.1; rules = cleared s.0 s.3; lines = i.2 })
 
 -- THE ANSWER: nothing is wrong,
 pub right-exact :
-    (m counts sizes : List ℕ) → fault_of m counts sizes ≡ Right → ((j : ℕ) → j < length (lines_of m) → breaks80 0 (lines_of m) j ≡ false) × Clean counts sizes (told_in m)
+    (m counts sizes : List ℕ) → fault_of m counts sizes ≡ Ok tt → ((j : ℕ) → j < length (lines_of m) → breaks80 0 (lines_of m) j ≡ false) × Clean counts sizes (told_in m)
 unfolding fault_of
 right-exact m counts sizes e = go (cut_of m) refl e
   where
-    go : (c : Cut) → cut_of m ≡ c → cut_fault counts sizes (told_in m) c ≡ Right → ((j : ℕ) → j < length (lines_of m) → breaks80 0 (lines_of m) j ≡ false) × Clean counts sizes (told_in m)
-    go (Lines k) q h = (cut-lines 0 (lines_of m) k q, told-right counts sizes (told_in m) h)
-    go (Long l) q h = absurd (right-at (sym h))
+    go :
+        (c : Result ℕ Fault) → cut_of m ≡ c → cut_fault counts sizes (told_in m) c ≡ Ok tt
+        → ((j : ℕ) → j < length (lines_of m) → breaks80 0 (lines_of m) j ≡ false) × Clean counts sizes (told_in m)
+    go (Ok k) q h = (cut-lines 0 (lines_of m) k q, told-right counts sizes (told_in m) h)
+    go (Err fault) q h = cc
 
 -- or what is told is the first: of 80, or else, with no line too long, of 81 to 86
 pub at_exact :
-    (m counts sizes : List ℕ) (r l : ℕ) → fault_of m counts sizes ≡ At r l
-    → ((r ≡ 80) × ((i : ℕ) × Reached 0 (lines_of m) l i))
-    ⊎ (((j : ℕ) → j < length (lines_of m) → breaks80 0 (lines_of m) j ≡ false) × ((k : ℕ) × (r ≡ 81 + k) × First counts sizes (told_in m) k l))
+    (m counts sizes : List ℕ) (r : Reason) (l : ℕ) → fault_of m counts sizes ≡ Err (at_line r l)
+    → ((number_of r ≡ 80) × ((i : ℕ) × Reached 0 (lines_of m) l i))
+    ⊎ (((j : ℕ) → j < length (lines_of m) → breaks80 0 (lines_of m) j ≡ false) × ((k : ℕ) × (number_of r ≡ 81 + k) × First counts sizes (told_in m) k l))
 unfolding fault_of
 at_exact m counts sizes r l e = go (cut_of m) refl e
   where
     go :
-        (c : Cut) → cut_of m ≡ c → cut_fault counts sizes (told_in m) c ≡ At r l
-        → ((r ≡ 80) × ((i : ℕ) × Reached 0 (lines_of m) l i))
-        ⊎ (((j : ℕ) → j < length (lines_of m) → breaks80 0 (lines_of m) j ≡ false) × ((k : ℕ) × (r ≡ 81 + k) × First counts sizes (told_in m) k l))
-    go (Lines n) q h = inr (cut-lines 0 (lines_of m) n q, told_at counts sizes (told_in m) r l h)
-    go (Long line) q h =
-        let p = at-reason h in
-        inl (sym p.0, cut-long 0 (lines_of m) l (q ∙ ap Long p.1))
+        (c : Result ℕ Fault) → cut_of m ≡ c → cut_fault counts sizes (told_in m) c ≡ Err (at_line r l)
+        → ((number_of r ≡ 80) × ((i : ℕ) × Reached 0 (lines_of m) l i))
+        ⊎ (((j : ℕ) → j < length (lines_of m) → breaks80 0 (lines_of m) j ≡ false) × ((k : ℕ) × (number_of r ≡ 81 + k) × First counts sizes (told_in m) k l))
+    go (Ok n) q h = inr (cut-lines 0 (lines_of m) n q, told_at counts sizes (told_in m) r l h)
+    go (Err fault) q h =
+        let same : fault ≡ at_line r l = cc in
+        let c = cut-long 0 (lines_of m) fault q in
+        inl (ap (λ (f : Fault). number_of f.reason) (sym same) ∙ ap number_of c.0, rw same at c.1)

@@ -1,5 +1,5 @@
 pub mod LineLaws
-pub mod ColumnLaws
+pub mod CutLaws
 pub mod RuleLaws
 pub mod SectionLaws
 pub mod Exact

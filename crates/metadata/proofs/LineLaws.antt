@@ -1,5 +1,6 @@
 -- The laws that the proofs of src/words.rt and src/line.rt cite: a word letter by letter, an equals sign, blanks and digits byte by byte.
 -- Assumes nothing.
+use Rattle.std.specs.Prelude.{Some, None}
 use Prim.Native.Nat.{ℕ, suc, ◌+◌, ◌-◌, ◌*◌, ◌<◌, ◌≤◌}
 use mathlib.Core.Bool.{Bool, true, false, not, ◌&&◌, ◌||◌, and-false}
 use mathlib.Core.List.{List, [], ◌∷◌}
@@ -17,20 +18,8 @@ use Rattle.field.specs.Bytes.{in_class, all_of}
 use Rattle.field.specs.Texts.{trim_to, trimmed}
 use Rattle.field.proofs.TextLaws.{trimmed-le}
 use Rattle.field.proofs.TextLoops.{trim-le, length-trimmed}
-use Rattle.metadata.specs.declared.told.Number.TheVariants.{Is, Odd}
-use Rattle.metadata.specs.Words.{is_capital, small, is_word, section_word}
-use Rattle.metadata.specs.Told.{is_section, is_fichero, equals_from, unled, decimal, too_many, number_in}
-
--- A LETTER: the small one is a byte too
-pub capital-fits : (b : ℕ) → is_capital b ≡ true → b + 32 < 256
-capital-fits b e = go (leb 65 b && leb b 90) refl e
-  where
-    go : (x : Bool) → (leb 65 b && leb b 90) ≡ x → (x || (leb 192 b && leb b 222 && not (eqb b 215))) ≡ true → b + 32 < 256
-    go true q h = let l = leb-true b 90 (and-true (leb 65 b) (leb b 90) q).1 in omega arith
-    go false q h =
-        let p = and-true (leb 192 b && leb b 222) (not (eqb b 215)) h in
-        let l = leb-true b 222 (and-true (leb 192 b) (leb b 222) p.0).1 in
-        omega arith
+use Rattle.metadata.specs.Words.{small, is_word, section_word}
+use Rattle.metadata.specs.Told.{is_fichero, equals_from, unled, decimal, too_many, number_in}
 
 -- A WORD: of both lists the first i letters are passed
 module _ (word t : List ℕ) (i : ℕ) where
@@ -55,11 +44,6 @@ word-long (w ∷ word) [] h = refl
 word-long (w ∷ word) (b ∷ t) h = sym (and-false (eqb (small b) w)) ∙ ap (λ (x : Bool). eqb (small b) w && x) (word-long word t (λ e. h (ap suc e)))
 
 -- A SECTION
-pub no-section : (t : List ℕ) → length t ≡ 0 → false ≡ is_section t
-unfolding is_section
-no-section [] e = refl
-no-section (b ∷ t) e = absurd (omega arith)
-
 pub fichero-short : (t : List ℕ) → length t ≤ 9 → false ≡ is_fichero t
 unfolding is_fichero
 fichero-short t l = rw (le-ltb 9 (length t) l)
@@ -103,10 +87,10 @@ module _ (t : List ℕ) (i : ℕ) where
   unled-end l = rw (drop_of_length-le t l)
 
 -- what is left from a place on, as a slice has it
-pub rest-is : (t : List ℕ) (i : ℕ) → take (length t - i) (drop i t) ≡ drop i t
+pub rest-is : {A : Type 0} (t : List A) (i : ℕ) → take (length t - i) (drop i t) ≡ drop i t
 rest-is t i = take_all (length t - i) (drop i t) (simp length-drop (omega arith))
 
-pub front_long : (n : ℕ) (t : List ℕ) → n ≤ length t → n ≡ length (take n t)
+pub front_long : {A : Type 0} (n : ℕ) (t : List A) → n ≤ length t → n ≡ length (take n t)
 front_long n t l = sym (length-take-le n t l)
 
 -- a key without the blanks before the equals sign: the front of the line
@@ -159,24 +143,24 @@ module _ {t : List ℕ} {n i : ℕ} (h : Reading t n i) (l : i < length t) where
   pub reading-more : {m : ℕ} → m ≡ n * 10 + (get_or t i 0 - 48) → in_class Digit (get_or t i 0) ≡ true → m < too_many → Reading t m (i + 1)
   reading-more e d s = record { within = omega arith; small = s; same = rw e next-number; digits = next-digit d }
 
-  pub odd_byte : in_class Digit (get_or t i 0) ≡ false → Odd ≡ number_in t
+  pub odd_byte : in_class Digit (get_or t i 0) ≡ false → None ≡ number_in t
   unfolding number_in all_of each
   odd_byte e =
       let none : all_of Digit t ≡ false = sym h.digits ∙ rw (drop-cons t i 0 l, e) in
       rw (none, and-false)
 
-  pub odd-large : {m : ℕ} → m ≡ n * 10 + (get_or t i 0 - 48) → too_many ≤ m → Odd ≡ number_in t
+  pub odd-large : {m : ℕ} → m ≡ n * 10 + (get_or t i 0 - 48) → too_many ≤ m → None ≡ number_in t
   unfolding number_in
   odd-large {m} e s =
       let g = grows (n * 10 + (get_or t i 0 - 48)) (drop (i + 1) t) in
       let q = next-number in
       rw (le-ltb (decimal 0 t) too_many (omega arith), and-false)
 
-pub odd-empty : (t : List ℕ) → length t ≡ 0 → Odd ≡ number_in t
+pub odd-empty : (t : List ℕ) → length t ≡ 0 → None ≡ number_in t
 unfolding number_in
 odd-empty t e = rw (eq-eqb (length t) 0 e)
 
-pub number_is : {t : List ℕ} {n i : ℕ} → Reading t n i → length t ≤ i → (length t ≡ 0 → ⊥) → Is n ≡ number_in t
+pub number_is : {t : List ℕ} {n i : ℕ} → Reading t n i → length t ≤ i → (length t ≡ 0 → ⊥) → Some n ≡ number_in t
 unfolding number_in decimal all_of each
 number_is {t} {n} {i} h l some =
     let s : decimal 0 t ≡ n = sym h.same ∙ rw (drop_of_length-le t l) in

@@ -1,61 +1,39 @@
 -- What stands in a section of a file, line by line: the rules 83 to 86.
 -- Assumes nothing.
-use Prim.Native.Nat.{ℕ, zero, suc, ◌+◌, ◌-◌, ◌<◌, ◌≤◌}
-use mathlib.Core.Bool.{Bool, true, false, not, ◌&&◌, ◌||◌, or-false, and-false}
-use mathlib.Core.List.{List, [], ◌∷◌}
+use Prim.Native.Nat.{ℕ, zero, suc, ◌+◌, ◌<◌, ◌≤◌}
+use mathlib.Core.Bool.{Bool, true, false, not, ◌&&◌, ◌||◌, or-false, or-true}
+use mathlib.Core.List.{List}
 use mathlib.Core.Path.{◌≡◌, refl, sym, ap, ◌∙◌}
 use native.Mathlib.Numerals.{add-one}
 use native.Mathlib.Omega.{arith}
 use lib.Dec.{eqb, leb, ltb}
-use lib.ListN.{length, get_or, drop, get_or-eq_default}
-use borrow.Author.Tests.{eqb-true, leb-true, leb-false, le-leb, lt-leb}
-use Rattle.laws.specs.Row.{pick}
+use lib.ListN.{drop}
+use borrow.Author.Tests.{leb-true, le-leb, lt-leb, ne_eqb}
+use Rattle.std.specs.Prelude.{Option, None}
 use Rattle.laws.specs.Find.{any}
-use Rattle.laws.proofs.FindLaws.{any-start, any-more}
-use Rattle.laws.proofs.RowLaws.{neither}
-use Rattle.laws.proofs.MatchLaws.{NoneOf, numbers, default-at}
+use Rattle.laws.proofs.FindLaws.{any-start, any-more, any-true}
+use Rattle.metadata.specs.declared.told.File.{File}
 use Rattle.metadata.specs.declared.told.Told.{Told}
-use Rattle.metadata.specs.Told.{kind_of, figure_of}
-use Rattle.metadata.specs.Rules.{is_head, is_file, is_name, is_count, is_size, line_at, in_file, seen, leads, file_of, named, complete, gives, again, rank, of_file, most_files, listed, misplaced, breaks83, breaks84, differs}
+use Rattle.metadata.specs.declared.told.Key.{Key}
+use Rattle.metadata.specs.declared.sections.Search.{Search}
+use Rattle.metadata.specs.Rules.{is_head, is_file, is_name, is_count, is_size, file_told, line_at, in_file, seen, leads, file_of, named, complete, gives, again, rank_in, of_file, same_file, is_unlisted, file_at, most_files, misplaced, breaks83, breaks84, differs}
+use Rattle.metadata.specs.Searches.{is_key, search_at, past, is_first, is_again}
 use Rattle.metadata.proofs.RuleLaws.{Clear}
 
--- A KIND that is a section's is none of the keys', and one that is none is no file's
-module _ (k : ℕ) where
-  pub head-keys : (eqb k 2 || eqb k 3) ≡ true → (eqb k 7 ≡ false) × ((eqb k 8 || eqb k 9) ≡ false) × ((eqb k 10 || eqb k 11) ≡ false)
-  head-keys e = go (eqb k 2) refl e
-    where
-      two : k ≡ 2 → (eqb k 7 ≡ false) × ((eqb k 8 || eqb k 9) ≡ false) × ((eqb k 10 || eqb k 11) ≡ false)
-      two q = rw q (refl, refl, refl)
+-- A SEARCH FOR A KEY, before line i + 1
+module _ (ts : List Told) (i : ℕ) {k : Key} {s : Search} (q : s ≡ search_at k ts i) where
+  pub search-past : {r : Search} → r ≡ past s (line_at ts i) → r ≡ search_at k ts (i + 1)
+  unfolding in_file seen
+  search-past e = e ∙ ap (λ (x : Search). past x (line_at ts i)) q ∙ rw add-one
 
-      three : k ≡ 3 → (eqb k 7 ≡ false) × ((eqb k 8 || eqb k 9) ≡ false) × ((eqb k 10 || eqb k 11) ≡ false)
-      three q = rw q (refl, refl, refl)
+  pub leads-is : {b : Bool} → b ≡ is_first s (line_at ts i) → b ≡ leads (is_key k) ts i
+  leads-is e = e ∙ ap (λ (x : Search). is_first x (line_at ts i)) q
 
-      go : (x : Bool) → eqb k 2 ≡ x → (x || eqb k 3) ≡ true → (eqb k 7 ≡ false) × ((eqb k 8 || eqb k 9) ≡ false) × ((eqb k 10 || eqb k 11) ≡ false)
-      go true q h = two (eqb-true k 2 q)
-      go false q h = three (eqb-true k 3 h)
+  pub again-is : {b : Bool} → b ≡ is_again s (line_at ts i) → b ≡ (in_file ts i && again (is_key k) ts i)
+  again-is e = e ∙ ap (λ (x : Search). is_again x (line_at ts i)) q
 
-  pub key-no-file : (eqb k 2 || eqb k 3) ≡ false → eqb k 3 ≡ false
-  key-no-file e = (neither (eqb k 2) (eqb k 3) e).1
-
--- A LINE FURTHER
+-- the file that a section names
 module _ (ts : List Told) (i : ℕ) where
-  in_head : is_head (line_at ts i) ≡ true → in_file ts (i + 1) ≡ is_file (line_at ts i)
-  unfolding in_file
-  in_head e = rw (add-one, e)
-
-  in-more : is_head (line_at ts i) ≡ false → in_file ts (i + 1) ≡ in_file ts i
-  unfolding in_file
-  in-more e = rw (add-one, e)
-
-  module _ (p : Told → Bool) where
-    seen-head : is_head (line_at ts i) ≡ true → seen p ts (i + 1) ≡ false
-    unfolding seen
-    seen-head e = rw (add-one, e)
-
-    seen_more : is_head (line_at ts i) ≡ false → seen p ts (i + 1) ≡ (p (line_at ts i) || seen p ts i)
-    unfolding seen
-    seen_more e = rw (add-one, e)
-
   pub file-head : is_head (line_at ts i) ≡ true → named (drop (i + 1) ts) ≡ file_of ts (i + 1)
   unfolding file_of
   file-head e = rw (add-one, e)
@@ -64,51 +42,32 @@ module _ (ts : List Told) (i : ℕ) where
   unfolding file_of
   file-more e = rw (add-one, e)
 
-pub file-start : (ts : List Told) → 0 ≡ file_of ts 0
+pub file-start : (ts : List Told) → None ≡ file_of ts 0
 unfolding file_of
 file-start ts = refl
 
--- where a search stands: whether line i + 1 is in a section of a file, and whether one of the kind was there before it
-pub record Standing (p : Told → Bool) (ts : List Told) (inside met : Bool) (i : ℕ) : Type 0 where
-  pub within : inside ≡ in_file ts i
-  pub before : met ≡ seen p ts i
-
-pub standing-start : (p : Told → Bool) (ts : List Told) → Standing p ts false false 0
-unfolding in_file seen
-standing-start p ts = record { within = refl; before = refl }
-
-module _ {p : Told → Bool} {ts : List Told} {inside met : Bool} {i : ℕ} (s : Standing p ts inside met i) where
-  pub standing-head : {own : Bool} → is_head (line_at ts i) ≡ true → own ≡ is_file (line_at ts i) → Standing p ts own false (i + 1)
-  standing-head e q = record { within = q ∙ sym (in_head ts i e); before = sym (seen-head ts i p e) }
-
-  pub standing-more : {own : Bool} → is_head (line_at ts i) ≡ false → own ≡ p (line_at ts i) → Standing p ts inside (own || met) (i + 1)
-  standing-more e q = record { within = s.within ∙ sym (in-more ts i e); before = rw (q, s.before) (sym (seen_more ts i p e)) }
-
-  pub leads-is : {own : Bool} → own ≡ p (line_at ts i) → (own && inside && not met) ≡ leads p ts i
-  leads-is q = rw (q, s.within, s.before)
-
--- a line that is no key leads none
-pub no_lead : (p : Told → Bool) (ts : List Told) (i : ℕ) → p (line_at ts i) ≡ false → leads p ts i ≡ false
-no_lead p ts i e = rw e
-
 -- 84
+abbrev pub lack : Bool → Bool → Bool
+lack a b = a && not b
+
 module _ (ts : List Told) (i : ℕ) where
-  is-84 : breaks84 ts (i + 1) ≡ ((is_file (line_at ts i) && not (complete (drop (i + 1) ts))) || (in_file ts i && (again is_name ts i || again is_count ts i || again is_size ts i)))
+  pub lacks-84 : lack (is_file (line_at ts i)) (complete (drop (i + 1) ts)) ≡ true → breaks84 ts (i + 1) ≡ true
   unfolding breaks84
-  is-84 = rw add-one
+  lacks-84 e =
+      let q : lack (is_file (line_at ts i)) (complete (drop (suc i) ts)) ≡ true = rw (← add-one i) e in
+      rw (add-one) (rw q)
 
-  pub head-84 : {own c : Bool} → is_head (line_at ts i) ≡ true → own ≡ is_file (line_at ts i) → c ≡ complete (drop (i + 1) ts) → (own && not c) ≡ breaks84 ts (i + 1)
-  head-84 {own} {c} e q h =
-      let k = head-keys (kind_of (line_at ts i)) e in
-      sym (or-false (own && not c)) ∙ rw (q, h) (ap (λ (x : Bool). (is_file (line_at ts i) && not (complete (drop (i + 1) ts))) || x) (sym none) ∙ sym is-84)
+  pub again-84 :
+      {a b c : Bool} → lack (is_file (line_at ts i)) (complete (drop (i + 1) ts)) ≡ false → a ≡ (in_file ts i && again is_name ts i) → b ≡ (in_file ts i && again is_count ts i)
+      → c ≡ (in_file ts i && again is_size ts i) → (a || b || c) ≡ breaks84 ts (i + 1)
+  unfolding breaks84
+  again-84 e qa qb qc =
+      let q : lack (is_file (line_at ts i)) (complete (drop (suc i) ts)) ≡ false = rw (← add-one i) e in
+      rw (add-one) (rw (q, qa, qb, qc) (go (in_file ts i) (again is_name ts i) (again is_count ts i) (again is_size ts i)))
     where
-      none : (in_file ts i && (again is_name ts i || again is_count ts i || again is_size ts i)) ≡ false
-      none = let k = head-keys (kind_of (line_at ts i)) e in rw (k.0, k.1, k.2, and-false)
-
-  pub key-84 :
-      {inside a b c name count size : Bool} → is_head (line_at ts i) ≡ false → Standing is_name ts inside name i → Standing is_count ts inside count i → Standing is_size ts inside size i
-      → a ≡ is_name (line_at ts i) → b ≡ is_count (line_at ts i) → c ≡ is_size (line_at ts i) → (inside && ((a && name) || (b && count) || (c && size))) ≡ breaks84 ts (i + 1)
-  key-84 e n m z qa qb qc = rw (qa, qb, qc, n.within, n.before, m.before, z.before) (ap (λ (x : Bool). (x && not (complete (drop (i + 1) ts))) || (in_file ts i && (again is_name ts i || again is_count ts i || again is_size ts i))) (sym (key-no-file (kind_of (line_at ts i)) e)) ∙ sym is-84)
+      go : (x a b c : Bool) → ((x && a) || (x && b) || (x && c)) ≡ (x && (a || b || c))
+      go true a b c = refl
+      go false a b c = refl
 
 pub clear-84 : (ts : List Told) → Clear (breaks84 ts) 1
 unfolding breaks84
@@ -117,53 +76,24 @@ clear-84 ts (suc j) l = absurd (omega arith)
 
 -- 85 and 86
 module _ (p : Told → Bool) (numbers : List ℕ) (ts : List Told) (i : ℕ) where
-  is-differing : differs p numbers ts (i + 1) ≡ (leads p ts i && not (gives (line_at ts i) (of_file numbers (file_of ts i))))
+  pub is-differing :
+      {a b : Bool} {file : Option File} {n : ℕ} → a ≡ leads p ts i → file ≡ file_of ts i → n ≡ of_file numbers file → b ≡ gives (line_at ts i) n
+      → (a && not b) ≡ differs p numbers ts (i + 1)
   unfolding differs
-  is-differing = rw add-one
-
-  pub head-differs : p (line_at ts i) ≡ false → false ≡ differs p numbers ts (i + 1)
-  head-differs e = sym (is-differing ∙ rw (no_lead p ts i e))
-
-  pub key-differs :
-      {own inside met : Bool} {k x y file : ℕ} → Standing p ts inside met i → own ≡ p (line_at ts i) → k ≡ kind_of (line_at ts i) → x ≡ figure_of (line_at ts i) → file ≡ file_of ts i
-      → y ≡ of_file numbers file → (own && inside && not met && not ((eqb k 8 || eqb k 10) && eqb x y)) ≡ differs p numbers ts (i + 1)
-  key-differs s q ek ex ef ey = rw (q, s.within, s.before, ek, ex, ey, ef) (sym is-differing)
+  is-differing ea ef en eb = rw (add-one, ea, eb, en, ef)
 
 pub clear-differs : (p : Told → Bool) (numbers : List ℕ) (ts : List Told) → Clear (differs p numbers ts) 1
 unfolding differs
 clear-differs p numbers ts zero l = refl
 clear-differs p numbers ts (suc j) l = absurd (omega arith)
 
-pub head-figure : (size : Bool) (t : Told) → is_head t ≡ true → pick size is_size is_count t ≡ false
-head-figure true t e = (head-keys (kind_of t) e).2
-head-figure false t e = (head-keys (kind_of t) e).1
-
 -- 83: THE FILES, in the list,
-abbrev pub Lists : List Told → ℕ → ℕ → Bool
-Lists ts f j = leads is_name ts j && eqb (figure_of (line_at ts j)) f
-
-pub head-lists : (ts : List Told) (f i : ℕ) → is_head (line_at ts i) ≡ true → Lists ts f i ≡ false
-head-lists ts f i e = rw (no_lead is_name ts i (head-keys (kind_of (line_at ts i)) e).0)
-
-pub key-lists : {ts : List Told} {own inside met : Bool} {i x : ℕ} (f : ℕ) → Standing is_name ts inside met i → own ≡ is_name (line_at ts i) → x ≡ figure_of (line_at ts i)
-    → (own && inside && not met && eqb x f) ≡ Lists ts f i
-key-lists f s q e = rw (q, s.within, s.before, e)
-
--- a number of a file
-pub file-there : (xs : List ℕ) (f : ℕ) → (f ≡ 0 → ⊥) → get_or xs (f - 1) 0 ≡ of_file xs f
-file-there xs zero h = absurd (h refl)
-file-there xs (suc f) h = let e : suc f - 1 ≡ f = omega arith in rw e
-
-pub file-past : (xs : List ℕ) (f : ℕ) → (f ≡ 0 → ⊥) → length xs ≤ f - 1 → 0 ≡ of_file xs f
-file-past xs zero h l = absurd (h refl)
-file-past xs (suc f) h l = sym (get_or-eq_default xs 0 {n = f} (omega arith))
+abbrev pub Lists : List Told → File → ℕ → Bool
+Lists ts f j = leads is_name ts j && same_file (file_told (line_at ts j)) f
 
 -- in their order
-pub rank-else : (f : ℕ) → NoneOf (numbers 1 8) f → 0 ≡ rank f
-rank-else f h = default-at 0 1 (1 ∷ 3 ∷ 4 ∷ 5 ∷ 8 ∷ 9 ∷ 10 ∷ 2 ∷ []) f h
-
 abbrev pub Above : List Told → ℕ → ℕ → Bool
-Above ts r j = leads is_name ts j && leb r (rank (figure_of (line_at ts j)))
+Above ts r j = leads is_name ts j && leb r (rank_in (file_told (line_at ts j)))
 
 -- top is the highest place of those before line i + 1
 pub record Top (ts : List Told) (top i : ℕ) : Type 0 where
@@ -176,7 +106,7 @@ module _ {ts : List Told} {top i : ℕ} (h : Top ts top i) where
   pub top-stays : leads is_name ts i ≡ false → Top ts top (i + 1)
   top-stays e = record { over = λ r. h.over r ∙ sym (or-false (any (Above ts (suc r)) i)) ∙ sym (any-more (Above ts (suc r)) i ∙ rw e) }
 
-  pub top-rises : {x : ℕ} → leads is_name ts i ≡ true → x ≡ rank (figure_of (line_at ts i)) → top < x → Top ts x (i + 1)
+  pub top-rises : {x : ℕ} → leads is_name ts i ≡ true → x ≡ rank_in (file_told (line_at ts i)) → top < x → Top ts x (i + 1)
   top-rises {x} e q l = record { over = λ r. sym (higher r) ∙ ap (λ (y : Bool). y || leb (suc r) x) (h.over r) ∙ rw q (sym (any-more (Above ts (suc r)) i ∙ rw e)) }
     where
       higher : (r : ℕ) → (leb (suc r) top || leb (suc r) x) ≡ leb (suc r) x
@@ -187,41 +117,44 @@ module _ {ts : List Told} {top i : ℕ} (h : Top ts top i) where
           go false m = refl
 
   -- an unknown file, or one that is not above all before it
-  pub out-of-place : {x : ℕ} → x ≡ rank (figure_of (line_at ts i)) → (eqb x 0 || leb x top) ≡ (eqb (rank (figure_of (line_at ts i))) 0 || misplaced ts i)
+  out-of-place : (x : ℕ) → x ≡ rank_in (file_told (line_at ts i)) → (eqb x 0 || leb x top) ≡ (eqb (rank_in (file_told (line_at ts i))) 0 || misplaced ts i)
   unfolding misplaced
-  out-of-place {x} q = rw (← q) (go x)
+  out-of-place x q = rw (← q) (go x)
     where
       go : (x : ℕ) → (eqb x 0 || leb x top) ≡ (eqb x 0 || any (Above ts x) i)
       go zero = refl
       go (suc r) = ap (λ (y : Bool). eqb (suc r) 0 || y) (h.over r)
 
-pub above : (x top : ℕ) → (eqb x 0 || leb x top) ≡ false → top < x
-above x top e = leb-false x top (neither (eqb x 0) (leb x top) e).1
+  module _ (counts : List ℕ) (e : leads is_name ts i ≡ true) {file : Option File} (q : file ≡ file_told (line_at ts i)) where
+    is-83 : breaks83 counts ts (i + 1) ≡ (eqb (rank_in file) 0 || leb (rank_in file) top)
+    unfolding breaks83
+    is-83 = rw (add-one, e) (sym (out-of-place (rank_in file) (ap rank_in q)))
 
-pub head-lead : (ts : List Told) (i : ℕ) → is_head (line_at ts i) ≡ true → leads is_name ts i ≡ false
-head-lead ts i e = no_lead is_name ts i (head-keys (kind_of (line_at ts i)) e).0
+    pub misplaced-83 : rank_in file ≤ top → breaks83 counts ts (i + 1) ≡ true
+    misplaced-83 l = is-83 ∙ rw (le-leb (rank_in file) top l, or-true)
 
-module _ (counts : List ℕ) (ts : List Told) (i : ℕ) where
-  is-83 : breaks83 counts ts (i + 1) ≡ (leads is_name ts i && (eqb (rank (figure_of (line_at ts i))) 0 || misplaced ts i))
-  unfolding breaks83
-  is-83 = rw add-one
+    pub placed-83 : top < rank_in file → breaks83 counts ts (i + 1) ≡ false
+    placed-83 l = is-83 ∙ rw (lt-leb (rank_in file) top l, ne_eqb (rank_in file) 0 (λ z. omega arith))
 
-  pub no-83 : leads is_name ts i ≡ false → breaks83 counts ts (i + 1) ≡ false
-  no-83 e = is-83 ∙ rw e
-
-  pub lead-83 : {x top : ℕ} → Top ts top i → leads is_name ts i ≡ true → x ≡ rank (figure_of (line_at ts i)) → breaks83 counts ts (i + 1) ≡ (eqb x 0 || leb x top)
-  lead-83 h e q = is-83 ∙ rw e (sym (out-of-place h q))
-
-abbrev pub Unlisted : List ℕ → List Told → ℕ → Bool
-Unlisted counts ts k = ltb 0 (of_file counts (k + 1)) && not (listed ts (k + 1))
-
-pub is-unlisted : (counts : List ℕ) (ts : List Told) → any (Unlisted counts ts) most_files ≡ breaks83 counts ts 0
+pub no-83 : (counts : List ℕ) (ts : List Told) (i : ℕ) → leads is_name ts i ≡ false → breaks83 counts ts (i + 1) ≡ false
 unfolding breaks83
-is-unlisted counts ts = refl
-
-pub file-unlisted : (counts : List ℕ) (ts : List Told) {x : ℕ} {y : Bool} (f : ℕ) → x ≡ of_file counts (f + 1) → y ≡ listed ts (f + 1) → (ltb 0 x && not y) ≡ Unlisted counts ts f
-file-unlisted counts ts f e q = rw (e, q)
+no-83 counts ts i e = rw (add-one, e)
 
 pub clear-83 : (counts : List ℕ) (ts : List Told) → breaks83 counts ts 0 ≡ false → Clear (breaks83 counts ts) 1
 clear-83 counts ts e zero l = e
 clear-83 counts ts e (suc j) l = absurd (omega arith)
+
+-- a file with records that is not listed, by the number of its records
+abbrev pub unlisted_by : ℕ → Bool → Bool
+unlisted_by n b = ltb 0 n && not b
+
+abbrev pub Unlisted : List ℕ → List Told → ℕ → Bool
+Unlisted counts ts k = is_unlisted counts ts (file_at k)
+
+pub none-unlisted : (counts : List ℕ) (ts : List Told) → any (Unlisted counts ts) most_files ≡ false → false ≡ breaks83 counts ts 0
+unfolding breaks83
+none-unlisted counts ts e = sym e
+
+pub one-unlisted : (counts : List ℕ) (ts : List Told) {k : ℕ} → k < most_files → Unlisted counts ts k ≡ true → true ≡ breaks83 counts ts 0
+unfolding breaks83
+one-unlisted counts ts {k} l e = sym (any-true (Unlisted counts ts) most_files {k = k} l e)

@@ -1,14 +1,12 @@
 -- What one line of a metadata file says, by its bytes (document 02, W-206; READINGS-02).
 -- Assumes nothing.
-use Rattle.std.specs.Prelude.{ℕ, suc, ◌+◌, ◌-◌, ◌*◌, ◌^◌, Bool, true, false, not, ◌&&◌, ◌||◌, List, [], ◌∷◌, eqb, ltb, length, get_or, take, drop}
+use Rattle.std.specs.Prelude.{ℕ, suc, ◌+◌, ◌-◌, ◌*◌, ◌^◌, Bool, false, not, ◌&&◌, ◌||◌, List, [], ◌∷◌, eqb, ltb, length, get_or, take, drop, Option, Some, None}
 use Rattle.laws.specs.Row.{pick}
 use Rattle.field.specs.declared.class.Class.TheVariants.{Digit}
 use Rattle.field.specs.Bytes.{all_of}
 use Rattle.field.specs.Texts.{trimmed}
 use Rattle.metadata.specs.declared.told.Told.{Told}
-use Rattle.metadata.specs.declared.told.Told.TheVariants.{Nothing, Empty, Section, Fichero, Other, Version, Name, Count, OddCount, Size, OddSize}
-use Rattle.metadata.specs.declared.told.Number.{Number}
-use Rattle.metadata.specs.declared.told.Number.TheVariants.{Is, Odd}
+use Rattle.metadata.specs.declared.told.Told.TheVariants.{Nothing, Empty, Section, Fichero, Other, Version, Name, Count, Size}
 use Rattle.metadata.specs.Words.{is_word, version_key, name_key, count_key, count_key_accented, size_key, size_key_blank, section_word, file_named}
 
 -- A SECTION: its first byte is [ and its last ]
@@ -49,28 +47,20 @@ abbrev pub too_many : ℕ
 too_many = 10 ^ 18
 
 -- a number that a file may have; any other value differs from all of these
-unfoldable pub number_in : List ℕ → Number
-number_in t = pick (not (eqb (length t) 0) && all_of Digit t && ltb (decimal 0 t) too_many) (Is (decimal 0 t)) Odd
+unfoldable pub number_in : List ℕ → Option ℕ
+number_in t = pick (not (eqb (length t) 0) && all_of Digit t && ltb (decimal 0 t) too_many) (Some (decimal 0 t)) None
 
-abbrev pub is_one : Number → Bool
-is_one (Is n) = eqb n 1
-is_one Odd = false
-
-abbrev pub count_told : Number → Told
-count_told (Is n) = Count n
-count_told Odd = OddCount
-
-abbrev pub size_told : Number → Told
-size_told (Is n) = Size n
-size_told Odd = OddSize
+abbrev pub is_one : Option ℕ → Bool
+is_one (Some n) = eqb n 1
+is_one None = false
 
 -- what a key with a value says; other keys are passed over
 unfoldable pub key_told : List ℕ → List ℕ → Told
 key_told key value =
     pick (is_word version_key key) (Version (is_one (number_in value)))
     (pick (is_word name_key key) (Name (file_named value))
-    (pick (is_word count_key key || is_word count_key_accented key) (count_told (number_in value))
-    (pick (is_word size_key key || is_word size_key_blank key) (size_told (number_in value)) Other)))
+    (pick (is_word count_key key || is_word count_key_accented key) (Count (number_in value))
+    (pick (is_word size_key key || is_word size_key_blank key) (Size (number_in value)) Other)))
 
 -- WHAT A LINE SAYS, by its bytes
 unfoldable pub told_of : List ℕ → Told
@@ -78,31 +68,3 @@ told_of t =
     pick (eqb (length t) 0) Empty
     (pick (is_section t) (pick (is_fichero t) Fichero Section)
     (pick (ltb (equals_at t) (length t)) (key_told (key_of t) (value_of t)) Nothing))
-
--- WHAT IT IS, as one number, and the number that it gives: a file's of a name, a count, a size
-abbrev pub kind_of : Told → ℕ
-kind_of Nothing = 0
-kind_of Empty = 1
-kind_of Section = 2
-kind_of Fichero = 3
-kind_of Other = 4
-kind_of (Version true) = 5
-kind_of (Version false) = 6
-kind_of (Name k) = 7
-kind_of (Count n) = 8
-kind_of OddCount = 9
-kind_of (Size n) = 10
-kind_of OddSize = 11
-
-abbrev pub figure_of : Told → ℕ
-figure_of Nothing = 0
-figure_of Empty = 0
-figure_of Section = 0
-figure_of Fichero = 0
-figure_of Other = 0
-figure_of (Version one) = 0
-figure_of (Name k) = k
-figure_of (Count n) = n
-figure_of OddCount = 0
-figure_of (Size n) = n
-figure_of OddSize = 0

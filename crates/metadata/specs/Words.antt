@@ -1,8 +1,10 @@
 -- The words of a metadata file (document 02, W-206; source 000, 5.5 and 6.4), and when bytes are a word: in any letter case, of ASCII's
 -- letters and of those of ISO 8859-1. A word is written here in small letters.
 -- Assumes nothing.
-use Rattle.std.specs.Prelude.{ℕ, ◌+◌, Bool, true, false, not, ◌&&◌, ◌||◌, List, [], ◌∷◌, eqb, leb}
+use Rattle.std.specs.Prelude.{ℕ, ◌+◌, Bool, true, false, not, ◌&&◌, ◌||◌, List, [], ◌∷◌, eqb, leb, Option, Some, None}
 use Rattle.laws.specs.Row.{pick}
+use Rattle.metadata.specs.declared.told.File.{File}
+use Rattle.metadata.specs.declared.told.File.TheVariants.{Catalogo1, ObPun2, ObTex3, ObLin4, Tramo5, Vertice6, Nodo7, ObComp8}
 
 -- a capital letter; its small one stands 32 after it. (215 is the sign of multiplication)
 abbrev pub is_capital : ℕ → Bool
@@ -84,14 +86,14 @@ nodo = 110 ∷ 111 ∷ 100 ∷ 111 ∷ []
 abbrev pub ob_comp : List ℕ
 ob_comp = 111 ∷ 98 ∷ 106 ∷ 101 ∷ 116 ∷ 111 ∷ 95 ∷ 99 ∷ 111 ∷ 109 ∷ 112 ∷ 117 ∷ 101 ∷ 115 ∷ 116 ∷ 111 ∷ []
 
--- the file that the bytes name, 0 where they name none
-unfoldable pub file_named : List ℕ → ℕ
+-- the file that the bytes name, where they name one
+unfoldable pub file_named : List ℕ → Option File
 file_named t =
-    pick (is_word catalogo t || is_word catalogo_accented t) 1
-    (pick (is_word ob_pun t) 2
-    (pick (is_word ob_tex t) 3
-    (pick (is_word ob_lin t) 4
-    (pick (is_word tramo t) 5
-    (pick (is_word vertice t) 6
-    (pick (is_word nodo t) 7
-    (pick (is_word ob_comp t) 8 0)))))))
+    pick (is_word catalogo t || is_word catalogo_accented t) (Some Catalogo1)
+    (pick (is_word ob_pun t) (Some ObPun2)
+    (pick (is_word ob_tex t) (Some ObTex3)
+    (pick (is_word ob_lin t) (Some ObLin4)
+    (pick (is_word tramo t) (Some Tramo5)
+    (pick (is_word vertice t) (Some Vertice6)
+    (pick (is_word nodo t) (Some Nodo7)
+    (pick (is_word ob_comp t) (Some ObComp8) None)))))))

@@ -2,18 +2,17 @@
 ghost use Rattle.std.specs.Prelude.{◌≡◌};
 ghost use Rattle.metadata.specs.Rules.{fault_of};
 
-use crate::columns::{MOST_LINES, fill_columns};
-use crate::rules::first_fault;
-use crate::told::{Cut, Fault};
+use crate::cut::{MOST_LINES, cut_lines};
+use crate::fault::Fault;
+use crate::rules::check_lines;
+use crate::told::Told;
 
 // What is wrong with it first, by reason and line.
-pub fn check_metadata(m: &[u8], counts: &[u64], sizes: &[u64]) -> Fault
+pub fn check_metadata(m: &[u8], counts: &[u64], sizes: &[u64]) -> Result<(), Fault>
     ensures { result ≡ fault_of m.now counts.now sizes.now }
 {
-    let mut kinds = [0u8; MOST_LINES];
-    let mut figures = [0u64; MOST_LINES];
-    match fill_columns(m, &mut kinds, &mut figures) {
-        Cut::Long(line) => Fault::At(80, line),
-        Cut::Lines(n) => first_fault(&kinds[..n], &figures[..n], counts, sizes),
-    }
+    // An array of the most lines, and how many of it are filled: there is no heap.
+    let mut lines = [Told::Nothing; MOST_LINES];
+    let n = cut_lines(m, &mut lines)?;
+    check_lines(&lines[..n], counts, sizes)
 }

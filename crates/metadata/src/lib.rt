@@ -2,7 +2,8 @@
 #![tactic(auto)]
 
 pub mod check;
-mod columns;
+mod cut;
+pub mod fault;
 mod line;
 mod rules;
 mod sections;

@@ -1,14 +1,14 @@
 // What one line says, by its bytes.
-ghost use Rattle.std.specs.Prelude.{◌≡◌, List, ℕ, ◌+◌, ◌≤◌, length, take, drop};
-ghost use Rattle.field.specs.Texts.{trimmed};
-ghost use Rattle.metadata.specs.Told.{is_section, is_fichero, equals_at, unled, number_in, is_one, count_told, size_told, key_told, told_of};
+ghost use Rattle.std.specs.Prelude.{◌≡◌, ◌<◌, length, MatchOption};
+ghost use Rattle.metadata.specs.Told.{is_section, is_fichero, equals_at, unled, number_in, key_told, told_of};
 
-use crate::told::{Number, Told};
+use crate::told::Told;
 use crate::words::{file_named, is_word};
 use field::class::{Class, byte};
 use field::words::trimmed_len;
 
 // Whether the first byte is [ and the last ].
+#[tactic(auto, unfolding(crate::specs::Told::is_section))]
 fn is_section(t: &[u8]) -> bool
     ensures { result ≡ is_section t.now }
 {
@@ -30,108 +30,74 @@ fn is_fichero(t: &[u8]) -> bool
     is_word(b"[fichero", &t[..8]) & Class::Digit.all(&t[8..end])
 }
 
-// Where the equals sign of a key line stands, the line's length where it is none.
-fn equals_at(t: &[u8]) -> usize
-    ensures { (result ≡ equals_at t.now) × (result ≤ length t.now) }
+// Where the equals sign of a key line stands; a line that is none has none.
+fn equals_at(t: &[u8]) -> Option<usize>
+    ensures { MatchOption result (equals_at t.now ≡ length t.now) (λ p. (p ≡ equals_at t.now) × (p < length t.now)) }
 {
     let mut some = false;
-    let mut i = 0;
-    while i < t.len() {
-        let b = t[i];
-        if (b == 61) & some {
-            return i;
+    for (i, b) in t.iter().enumerate() {
+        if (*b == 61) & some {
+            return Some(i);
         }
-        some = some | (b != 32);
-        i += 1;
+        some = some | (*b != 32);
     }
-    i
+    None
 }
 
 // The bytes without the blanks before them.
 fn unled_part(t: &[u8]) -> &[u8]
     ensures { result.now ≡ unled t.now }
 {
-    let mut i = 0;
-    while i < t.len() {
-        if t[i] == 32 {
-            i += 1;
-        } else {
+    for (i, b) in t.iter().enumerate() {
+        if *b != 32 {
             return &t[i..];
         }
     }
-    &t[i..]
+    &t[t.len()..]
 }
 
 // A number that a file may have.
-fn number_in(t: &[u8]) -> Number
+fn number_in(t: &[u8]) -> Option<u64>
     ensures { result ≡ number_in t.now }
 {
     if t.len() == 0 {
-        return Number::Odd;
+        return None;
     }
     let mut n: u64 = 0;
-    let mut i = 0;
-    while i < t.len() {
-        let b = t[i];
-        if !Class::Digit.has(b) {
-            return Number::Odd;
+    for b in t {
+        if !Class::Digit.has(*b) {
+            return None;
         }
-        n = n * 10 + (b - 48) as u64;
+        n = n * 10 + (*b - 48) as u64;
         if 1000000000000000000 <= n {
-            return Number::Odd;
+            return None;
         }
-        i += 1;
     }
-    Number::Is(n)
-}
-
-fn is_one(n: Number) -> bool
-    ensures { result ≡ is_one n }
-{
-    match n {
-        Number::Is(k) => k == 1,
-        Number::Odd => false,
-    }
-}
-
-fn count_told(n: Number) -> Told
-    ensures { result ≡ count_told n }
-{
-    match n {
-        Number::Is(k) => Told::Count(k),
-        Number::Odd => Told::OddCount,
-    }
-}
-
-fn size_told(n: Number) -> Told
-    ensures { result ≡ size_told n }
-{
-    match n {
-        Number::Is(k) => Told::Size(k),
-        Number::Odd => Told::OddSize,
-    }
+    Some(n)
 }
 
 // What a key with a value says. The accents are ISO 8859-1's.
+#[tactic(auto, unfolding(crate::specs::Told::key_told))]
 fn key_told(key: &[u8], value: &[u8]) -> Told
     ensures { result ≡ key_told key.now value.now }
 {
     if is_word(b"version_de_migra", key) {
-        return Told::Version(is_one(number_in(value)));
+        return Told::Version(number_in(value) == Some(1));
     }
     if is_word(b"nombre_migra", key) {
         return Told::Name(file_named(value));
     }
     if is_word(b"numero_de_registros", key) | is_word(b"n\xFAmero_de_registros", key) {
-        return count_told(number_in(value));
+        return Told::Count(number_in(value));
     }
     if is_word(b"tama\xF1o_en_bytes", key) | is_word(b"tama\xF1o_en bytes", key) {
-        return size_told(number_in(value));
+        return Told::Size(number_in(value));
     }
     Told::Other
 }
 
 // What a line says.
+#[tactic(auto, unfolding(crate::specs::Told::told_of))]
 pub fn told_of(t: &[u8]) -> Told
     ensures { result ≡ told_of t.now }
 {
@@ -144,11 +110,11 @@ pub fn told_of(t: &[u8]) -> Told
         }
         return Told::Section;
     }
-    let p = equals_at(t);
-    if p < t.len() {
-        let end = trimmed_len(&t[..p]);
-        let from = p + 1;
-        return key_told(&t[..end], unled_part(&t[from..]));
+    match equals_at(t) {
+        Some(p) => {
+            let end = trimmed_len(&t[..p]);
+            key_told(&t[..end], unled_part(&t[p + 1..]))
+        }
+        None => Told::Nothing,
     }
-    Told::Nothing
 }

@@ -1,249 +1,149 @@
-// The rules 81 to 86: a function for each, which gives the first line that breaks it, and one past the last where none does.
-ghost use Rattle.std.specs.Prelude.{◌≡◌, List, map, ◌∷◌, ℕ, ◌+◌, ◌<◌, length, get_or};
-ghost use Rattle.laws.specs.Row.{pick};
-ghost use Rattle.laws.specs.Find.{first_index, or_end};
-ghost use Rattle.metadata.specs.declared.told.Told.{Told};
-ghost use Rattle.metadata.specs.Rules.{is_count, is_size, rank, of_file, listed, breaks81, breaks82, breaks83, breaks84, differs, breaks, told_fault};
-ghost use Rattle.metadata.specs.Told.{kind_of, figure_of};
+// The rules 81 to 86: a function for each, which gives the first line that breaks it.
+ghost use Rattle.std.specs.Prelude.{◌≡◌, ◌+◌, length};
+ghost use Rattle.metadata.specs.Faults.{ruled};
+ghost use Rattle.metadata.specs.Rules.{of_file, listed, breaks81, breaks82, breaks83, breaks84, differs, told_fault};
+ghost use Rattle.metadata.specs.Searches.{is_key};
 
-use crate::sections::{is_complete, is_count, is_head, is_name, is_size, named_from};
-use crate::told::Fault;
+use crate::fault::{Fault, Reason};
+use crate::sections::{Search, is_complete, named_in};
+use crate::told::{FILES, File, Key, Told};
 
-fn first_81(kinds: &[u8]) -> usize
-    ensures { (ts : List Told) → kinds.now ≡ map kind_of ts → result ≡ or_end (length ts + 1) (first_index (breaks81 ts) (length ts + 1)) }
+fn check_81(lines: &[Told]) -> Result<(), Fault>
+    ensures { result ≡ ruled Reason.OddLine81 (breaks81 lines.now) (length lines.now + 1) }
 {
-    let mut i = 0;
-    while i < kinds.len() {
-        if kinds[i] == 0 {
-            return i + 1;
+    for (i, t) in lines.iter().enumerate() {
+        if t.is_nothing() {
+            return Err(Reason::OddLine81.at(i + 1));
         }
-        i += 1;
     }
-    i + 1
+    Ok(())
 }
 
-fn first_82(kinds: &[u8]) -> usize
-    ensures { (ts : List Told) → kinds.now ≡ map kind_of ts → result ≡ or_end (length ts + 1) (first_index (breaks82 ts) (length ts + 1)) }
+fn check_82(lines: &[Told]) -> Result<(), Fault>
+    ensures { result ≡ ruled Reason.OtherVersion82 (breaks82 lines.now) (length lines.now + 1) }
 {
     let mut some = false;
-    let mut i = 0;
-    while i < kinds.len() {
-        let k = kinds[i];
-        if k == 6 {
-            return i + 1;
+    for (i, t) in lines.iter().enumerate() {
+        if let Told::Version(one) = *t {
+            if !one {
+                return Err(Reason::OtherVersion82.at(i + 1));
+            }
+            some = true;
         }
-        some = some | (k == 5);
-        i += 1;
     }
-    if some { i + 1 } else { 0 }
-}
-
-// The place of a file in section 5.5's order, 0 where it is none.
-fn rank_of(f: u64) -> usize
-    ensures { result ≡ rank f }
-{
-    match f {
-        1 => 1,
-        2 => 3,
-        3 => 4,
-        4 => 5,
-        5 => 8,
-        6 => 9,
-        7 => 10,
-        8 => 2,
-        _ => 0,
+    if some {
+        Ok(())
+    } else {
+        Err(Reason::OtherVersion82.at(0))
     }
 }
 
 // A file's number in a list by files, 0 where there is none.
-fn of_file(numbers: &[u64], f: u64) -> u64
-    ensures { result ≡ of_file numbers.now f }
+fn of_file(numbers: &[u64], file: Option<File>) -> u64
+    ensures { result ≡ of_file numbers.now file }
 {
-    if f == 0 {
-        return 0;
+    match file {
+        Some(f) => numbers.get(f.place()).copied().unwrap_or(0),
+        None => 0,
     }
-    let i = f as usize - 1;
-    if i < numbers.len() { numbers[i] } else { 0 }
 }
 
 // Whether a section of a file names the file first.
-fn is_listed(kinds: &[u8], figures: &[u64], f: u64) -> bool
-    requires { length figures.now ≡ length kinds.now }
-    ensures { (ts : List Told) → kinds.now ≡ map kind_of ts → figures.now ≡ map figure_of ts → result ≡ listed ts f }
+fn is_listed(lines: &[Told], file: File) -> bool
+    ensures { result ≡ listed lines.now file }
 {
-    let mut inside = false;
-    let mut met = false;
-    let mut i = 0;
-    while i < kinds.len() {
-        let k = kinds[i];
-        if is_head(k) {
-            inside = k == 3;
-            met = false;
-            i += 1;
-        } else {
-            let own = is_name(k);
-            if own & inside & !met & (figures[i] == f) {
-                return true;
-            }
-            met = own | met;
-            i += 1;
+    let mut names = Search::of(Key::Name);
+    for t in lines {
+        if names.is_first(*t) & t.names(file) {
+            return true;
         }
+        names = names.past(*t);
     }
     false
 }
 
 // Whether a file with records is not listed.
-fn is_one_unlisted(kinds: &[u8], figures: &[u64], counts: &[u64]) -> bool
-    requires { length figures.now ≡ length kinds.now }
-    ensures { (ts : List Told) → kinds.now ≡ map kind_of ts → figures.now ≡ map figure_of ts → result ≡ breaks83 counts.now ts 0 }
+fn is_one_unlisted(lines: &[Told], counts: &[u64]) -> bool
+    ensures { result ≡ breaks83 counts.now lines.now 0 }
 {
-    let mut f: u64 = 0;
-    while f < 8 {
-        let next = f + 1;
-        if (0 < of_file(counts, next)) & !is_listed(kinds, figures, next) {
+    for file in FILES {
+        if 0 < of_file(counts, Some(file)) && !is_listed(lines, file) {
             return true;
         }
-        f = next;
     }
     false
 }
 
-fn first_83(kinds: &[u8], figures: &[u64], counts: &[u64]) -> usize
-    requires { length figures.now ≡ length kinds.now }
-    ensures { (ts : List Told) → kinds.now ≡ map kind_of ts → figures.now ≡ map figure_of ts → result ≡ or_end (length ts + 1) (first_index (breaks83 counts.now ts) (length ts + 1)) }
+fn check_83(lines: &[Told], counts: &[u64]) -> Result<(), Fault>
+    ensures { result ≡ ruled Reason.OtherList83 (breaks83 counts.now lines.now) (length lines.now + 1) }
 {
-    if is_one_unlisted(kinds, figures, counts) {
-        return 0;
+    if is_one_unlisted(lines, counts) {
+        return Err(Reason::OtherList83.at(0));
     }
-    let mut inside = false;
-    let mut met = false;
+    let mut names = Search::of(Key::Name);
     let mut top = 0;
-    let mut i = 0;
-    while i < kinds.len() {
-        let k = kinds[i];
-        if is_head(k) {
-            inside = k == 3;
-            met = false;
-            i += 1;
-        } else {
-            let own = is_name(k);
-            if own & inside & !met {
-                let rank = rank_of(figures[i]);
-                if (rank == 0) | (rank <= top) {
-                    return i + 1;
-                }
-                top = rank;
-                met = own | met;
-                i += 1;
-            } else {
-                met = own | met;
-                i += 1;
+    for (i, t) in lines.iter().enumerate() {
+        if names.is_first(*t) {
+            let Some(file) = t.file() else {
+                return Err(Reason::OtherList83.at(i + 1));
+            };
+            let rank = file.rank();
+            if rank <= top {
+                return Err(Reason::OtherList83.at(i + 1));
             }
+            top = rank;
         }
+        names = names.past(*t);
     }
-    i + 1
+    Ok(())
 }
 
-fn first_84(kinds: &[u8]) -> usize
-    ensures { (ts : List Told) → kinds.now ≡ map kind_of ts → result ≡ or_end (length ts + 1) (first_index (breaks84 ts) (length ts + 1)) }
+fn check_84(lines: &[Told]) -> Result<(), Fault>
+    ensures { result ≡ ruled Reason.OtherKeys84 (breaks84 lines.now) (length lines.now + 1) }
 {
-    let mut inside = false;
-    let mut name = false;
-    let mut count = false;
-    let mut size = false;
-    let mut i = 0;
-    while i < kinds.len() {
-        let k = kinds[i];
-        if is_head(k) {
-            let own = k == 3;
-            if own & !is_complete(kinds, i + 1) {
-                return i + 1;
-            }
-            inside = own;
-            name = false;
-            count = false;
-            size = false;
-            i += 1;
-        } else {
-            let a = is_name(k);
-            let b = is_count(k);
-            let c = is_size(k);
-            if inside & ((a & name) | (b & count) | (c & size)) {
-                return i + 1;
-            }
-            name = a | name;
-            count = b | count;
-            size = c | size;
-            i += 1;
+    let mut names = Search::of(Key::Name);
+    let mut counts = Search::of(Key::Count);
+    let mut sizes = Search::of(Key::Size);
+    for (i, t) in lines.iter().enumerate() {
+        if t.is_file() && !is_complete(&lines[i + 1..]) {
+            return Err(Reason::OtherKeys84.at(i + 1));
         }
-    }
-    i + 1
-}
-
-// The count of 85, or the size of 86.
-fn is_figure(k: u8, of_size: bool) -> bool
-    ensures { (t : Told) → k ≡ kind_of t → result ≡ pick of_size is_size is_count t }
-{
-    if of_size { is_size(k) } else { is_count(k) }
-}
-
-// 85 and 86, by the files' numbers.
-fn first_differing(kinds: &[u8], figures: &[u64], numbers: &[u64], of_size: bool) -> usize
-    requires { length figures.now ≡ length kinds.now }
-    ensures { (ts : List Told) → kinds.now ≡ map kind_of ts → figures.now ≡ map figure_of ts → result ≡ or_end (length ts + 1) (first_index (differs (pick of_size is_size is_count) numbers.now ts) (length ts + 1)) }
-{
-    let mut inside = false;
-    let mut met = false;
-    let mut file: u64 = 0;
-    let mut i = 0;
-    while i < kinds.len() {
-        let k = kinds[i];
-        if is_head(k) {
-            inside = k == 3;
-            met = false;
-            file = named_from(kinds, figures, i + 1);
-            i += 1;
-        } else {
-            let own = is_figure(k, of_size);
-            let right = ((k == 8) | (k == 10)) & (figures[i] == of_file(numbers, file));
-            if own & inside & !met & !right {
-                return i + 1;
-            }
-            met = own | met;
-            i += 1;
+        if names.is_again(*t) | counts.is_again(*t) | sizes.is_again(*t) {
+            return Err(Reason::OtherKeys84.at(i + 1));
         }
+        names = names.past(*t);
+        counts = counts.past(*t);
+        sizes = sizes.past(*t);
     }
-    i + 1
+    Ok(())
 }
 
-// The first line that breaks the rule of a number: 0 is 81, and so on.
-fn first_line(rule: usize, kinds: &[u8], figures: &[u64], counts: &[u64], sizes: &[u64]) -> usize
-    requires { (rule < 6) × (length figures.now ≡ length kinds.now) }
-    ensures { (ts : List Told) → kinds.now ≡ map kind_of ts → figures.now ≡ map figure_of ts → result ≡ or_end (length ts + 1) (first_index (breaks counts.now sizes.now ts rule) (length ts + 1)) }
+// 85 and 86: the first count, or size, of a section that differs from its file's number.
+fn check_numbers(lines: &[Told], key: Key, numbers: &[u64], reason: Reason) -> Result<(), Fault>
+    ensures { result ≡ ruled reason (differs (is_key key) numbers.now lines.now) (length lines.now + 1) }
 {
-    match rule {
-        0 => first_81(kinds),
-        1 => first_82(kinds),
-        2 => first_83(kinds, figures, counts),
-        3 => first_84(kinds),
-        4 => first_differing(kinds, figures, counts, false),
-        _ => first_differing(kinds, figures, sizes, true),
+    let mut search = Search::of(key);
+    let mut file = None;
+    for (i, t) in lines.iter().enumerate() {
+        if search.is_first(*t) & !t.gives(of_file(numbers, file)) {
+            return Err(reason.at(i + 1));
+        }
+        if t.is_head() {
+            file = named_in(&lines[i + 1..]);
+        }
+        search = search.past(*t);
     }
+    Ok(())
 }
 
 // The first fault of 81 to 86, by reason and line.
-pub(crate) fn first_fault(kinds: &[u8], figures: &[u64], counts: &[u64], sizes: &[u64]) -> Fault
-    requires { length figures.now ≡ length kinds.now }
-    ensures { (ts : List Told) → kinds.now ≡ map kind_of ts → figures.now ≡ map figure_of ts → result ≡ told_fault counts.now sizes.now ts }
+pub(crate) fn check_lines(lines: &[Told], counts: &[u64], sizes: &[u64]) -> Result<(), Fault>
+    ensures { result ≡ told_fault counts.now sizes.now lines.now }
 {
-    let n = kinds.len();
-    let mut rule = 0;
-    while rule < 6 {
-        let line = first_line(rule, kinds, figures, counts, sizes);
-        if line <= n {
-            return Fault::At(81 + rule, line);
-        }
-        rule += 1;
-    }
-    Fault::Right
+    check_81(lines)?;
+    check_82(lines)?;
+    check_83(lines, counts)?;
+    check_84(lines)?;
+    check_numbers(lines, Key::Count, counts, Reason::OtherCount85)?;
+    check_numbers(lines, Key::Size, sizes, Reason::OtherSize86)
 }

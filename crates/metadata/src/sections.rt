@@ -1,71 +1,98 @@
-// Sections of files: their keys, and what they name. A line is its number in the column (columns.rt).
-ghost use Rattle.std.specs.Prelude.{◌≡◌, ◌&&◌, List, map, ℕ, ◌≤◌, length, get_or, drop};
+// Sections of files: their keys, and what they name.
+ghost use Rattle.std.specs.Prelude.{◌≡◌, List};
 ghost use Rattle.metadata.specs.declared.told.Told.{Told};
-ghost use Rattle.metadata.specs.Rules.{is_head, is_name, is_count, is_size, complete, named};
-ghost use Rattle.metadata.specs.Told.{kind_of, figure_of};
+ghost use Rattle.metadata.specs.Rules.{complete, met, named};
+ghost use Rattle.metadata.specs.Searches.{is_key, search_at, past, is_first, is_again};
 
-// The numbers of lines that the rules ask for.
-pub(crate) fn is_head(k: u8) -> bool
-    ensures { (t : Told) → k ≡ kind_of t → result ≡ is_head t }
-{
-    (k == 2) | (k == 3)
+use crate::told::{File, Key, Told};
+
+// What a search of lines for a key knows: whether it is in a section of a file, and whether the section has had the key.
+#[derive(Clone, Copy)]
+pub(crate) struct Search {
+    key: Key,
+    inside: bool,
+    met: bool,
 }
 
-pub(crate) fn is_name(k: u8) -> bool
-    ensures { (t : Told) → k ≡ kind_of t → result ≡ is_name t }
-{
-    k == 7
-}
-
-pub(crate) fn is_count(k: u8) -> bool
-    ensures { (t : Told) → k ≡ kind_of t → result ≡ is_count t }
-{
-    (k == 8) | (k == 9)
-}
-
-pub(crate) fn is_size(k: u8) -> bool
-    ensures { (t : Told) → k ≡ kind_of t → result ≡ is_size t }
-{
-    (k == 10) | (k == 11)
-}
-
-// Whether the lines from a place up to the next section have all three keys.
-pub(crate) fn is_complete(kinds: &[u8], from: usize) -> bool
-    requires { from ≤ length kinds.now }
-    ensures { (ts : List Told) → kinds.now ≡ map kind_of ts → result ≡ complete (drop from ts) }
-{
-    let mut name = false;
-    let mut count = false;
-    let mut size = false;
-    let mut i = from;
-    while i < kinds.len() {
-        let k = kinds[i];
-        if is_head(k) {
-            return name & count & size;
+impl Search {
+    // Before any line.
+    pub(crate) fn of(key: Key) -> Search
+        ensures { (ts : List Told) → result ≡ search_at key ts 0 }
+    {
+        Search {
+            key,
+            inside: false,
+            met: false,
         }
-        name = name | is_name(k);
-        count = count | is_count(k);
-        size = size | is_size(k);
-        i += 1;
     }
-    name & count & size
+
+    // After the line.
+    pub(crate) fn past(self, t: Told) -> Search
+        ensures { result ≡ past self t }
+    {
+        if t.is_head() {
+            Search {
+                key: self.key,
+                inside: t.is_file(),
+                met: false,
+            }
+        } else {
+            Search {
+                key: self.key,
+                inside: self.inside,
+                met: self.key.has(t) | self.met,
+            }
+        }
+    }
+
+    // Whether the line is the key's first in a section of a file.
+    pub(crate) fn is_first(self, t: Told) -> bool
+        ensures { result ≡ is_first self t }
+    {
+        self.key.has(t) & self.inside & !self.met
+    }
+
+    // Whether it is a further one.
+    pub(crate) fn is_again(self, t: Told) -> bool
+        ensures { result ≡ is_again self t }
+    {
+        self.inside & (self.key.has(t) & self.met)
+    }
 }
 
-// The file that the lines from a place up to the next section name first, 0 where they name none.
-pub(crate) fn named_from(kinds: &[u8], figures: &[u64], from: usize) -> u64
-    requires { (from ≤ length kinds.now) × (length figures.now ≡ length kinds.now) }
-    ensures { (ts : List Told) → kinds.now ≡ map kind_of ts → figures.now ≡ map figure_of ts → result ≡ named (drop from ts) }
+// Whether the lines up to the next section have the key,
+fn has_key(lines: &[Told], key: Key) -> bool
+    ensures { result ≡ met (is_key key) lines.now }
 {
-    let mut i = from;
-    while i < kinds.len() {
-        let k = kinds[i];
-        if is_head(k) {
-            return 0;
+    for t in lines {
+        if t.is_head() {
+            return false;
         }
-        if is_name(k) {
-            return figures[i];
+        if key.has(*t) {
+            return true;
         }
-        i += 1;
     }
-    0
+    false
+}
+
+// all three keys,
+pub(crate) fn is_complete(lines: &[Told]) -> bool
+    ensures { result ≡ complete lines.now }
+{
+    has_key(lines, Key::Name) & has_key(lines, Key::Count) & has_key(lines, Key::Size)
+}
+
+// and the file that they name first.
+pub(crate) fn named_in(lines: &[Told]) -> Option<File>
+    ensures { result ≡ named lines.now }
+{
+    for t in lines {
+        if t.is_head() {
+            return None;
+        }
+        if let Told::Name(file) = *t {
+            return file;
+        }
+    }
+    None
 }

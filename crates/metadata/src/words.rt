@@ -1,8 +1,11 @@
 // Words in any letter case.
-ghost use Rattle.std.specs.Prelude.{◌≡◌, ◌||◌, List, ℕ};
-ghost use Rattle.metadata.specs.Words.{small, is_word, catalogo, catalogo_accented, file_named};
+ghost use Rattle.std.specs.Prelude.{◌≡◌};
+ghost use Rattle.metadata.specs.Words.{small, is_word, file_named};
+
+use crate::told::File;
 
 // A byte; of a capital letter of ASCII or of ISO 8859-1 its small one.
+#[tactic(auto, unfolding(crate::specs::Words::small))]
 fn small_of(b: u8) -> u8
     ensures { result ≡ small b }
 {
@@ -17,48 +20,45 @@ fn small_of(b: u8) -> u8
 pub fn is_word(word: &[u8], t: &[u8]) -> bool
     ensures { result ≡ is_word word.now t.now }
 {
-    let n = word.len();
-    if t.len() != n {
+    if t.len() != word.len() {
         return false;
     }
-    let mut i = 0;
-    while i < n {
-        if small_of(t[i]) == word[i] {
-            i += 1;
-        } else {
+    for (i, w) in word.iter().enumerate() {
+        if small_of(t[i]) != *w {
             return false;
         }
     }
     true
 }
 
-// The file that the bytes name, 0 where they name none. The accent is ISO 8859-1's.
-pub fn file_named(t: &[u8]) -> usize
+// The file that the bytes name, where they name one. The accent is ISO 8859-1's.
+#[tactic(auto, unfolding(crate::specs::Words::file_named))]
+pub fn file_named(t: &[u8]) -> Option<File>
     ensures { result ≡ file_named t.now }
 {
     if is_word(b"catalogo_de_elementos", t) | is_word(b"cat\xE1logo_de_elementos", t) {
-        return 1;
+        return Some(File::Catalogo1);
     }
     if is_word(b"objeto_puntual", t) {
-        return 2;
+        return Some(File::ObPun2);
     }
     if is_word(b"objeto_textual", t) {
-        return 3;
+        return Some(File::ObTex3);
     }
     if is_word(b"objeto_lineal", t) {
-        return 4;
+        return Some(File::ObLin4);
     }
     if is_word(b"tramo", t) {
-        return 5;
+        return Some(File::Tramo5);
     }
     if is_word(b"vertice", t) {
-        return 6;
+        return Some(File::Vertice6);
     }
     if is_word(b"nodo", t) {
-        return 7;
+        return Some(File::Nodo7);
     }
     if is_word(b"objeto_compuesto", t) {
-        return 8;
+        return Some(File::ObComp8);
     }
-    0
+    None
 }

@@ -5,7 +5,7 @@ use mathlib.Core.Path.{◌≡◌, refl, sym}
 use Rattle.laws.proofs.FindLaws.{true-false}
 use Rattle.record.specs.declared.kind.Kind.{Kind}
 use Rattle.record.specs.declared.reason.Break.{Break}
-use Rattle.record.specs.declared.reason.Finding.TheVariants.{Broken}
+use Rattle.std.specs.Prelude.{Err}
 use Rattle.record.proofs.Claims.{MeansBy}
 use Rattle.record.specs.Files.{Delivery}
 use Rattle.keys.proofs.GroupMeaning.{Numbered, group-means}
@@ -23,6 +23,6 @@ pub objects-means : (d : Delivery) (k : Kind) → MeansBy (objects_broken d k) 7
 unfolding objects_in objects_broken
 objects-means d k = group-means 7 (objects_tests d k) (λ i f. seventy_reasons) k (d k).count (seventy-numbered d k)
 
-pub objects-shown : (d : Delivery) (k : Kind) {b : Break} → objects_in d k ≡ Broken b → ShownBy (λ i f. seventy_reasons) k b
+pub objects-shown : (d : Delivery) (k : Kind) {b : Break} → objects_in d k ≡ Err b → ShownBy (λ i f. seventy_reasons) k b
 unfolding objects_in
 objects-shown d k e = group-shown 7 (objects_tests d k) (λ i f. seventy_reasons) k (d k).count (seventy-numbered d k) e

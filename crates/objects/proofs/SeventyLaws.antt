@@ -13,12 +13,14 @@ use Rattle.laws.proofs.FindLaws.{true-false}
 use Rattle.index.specs.Keys.{found_of}
 use Rattle.index.specs.Marks.{Marked, is_marked}
 use Rattle.index.specs.Tally.{no_tally, with_cell}
+use Rattle.std.specs.Prelude.{Some, None}
+use Rattle.index.specs.declared.tally.First.{First}
 use Rattle.index.specs.declared.tally.Tally.{Tally}
 use Rattle.record.specs.declared.kind.Kind.{Kind}
 use Rattle.record.specs.declared.kind.Kind.TheVariants.{Catalogo, ObPun, ObTex, ObLin, Tramo, Vertice, Nodo, ObComp}
 use Rattle.record.specs.declared.reason.Reason.TheVariants.{LongFile10}
 use Rattle.record.specs.declared.reason.Break.{Break}
-use Rattle.record.specs.declared.reason.Finding.TheVariants.{Fine, Broken}
+use Rattle.std.specs.Prelude.{Ok, Err}
 use Rattle.record.specs.Table.{file_of, kinds}
 use Rattle.record.specs.Breaks.{break_of}
 use Rattle.record.specs.Files.{Delivery}
@@ -111,16 +113,16 @@ module _ (d : Delivery) where
       ∙ ap (seventy_tally d) (kind_at k)
 
   module _ (k : Kind) {t : Tally} (e : t ≡ seventy_tally d k) where
-    pub seventy-row : t.found ≡ true → t.at < (d k).count
+    pub seventy-row : {f : First} → t.first ≡ Some f → f.at < (d k).count
     unfolding seventy_tally
     seventy-row = tally-row (seventies d k) k (d k).count e
 
-    pub seventy-broken : {x : Break} → t.found ≡ true
-        → x ≡ break_of (get_or seventy_reasons (t.cell % 10) LongFile10) k (t.at + 1) (t.cell / 10) → Broken x ≡ objects_in d k
+    pub seventy-broken : {f : First} {x : Break} → t.first ≡ Some f
+        → x ≡ break_of (get_or seventy_reasons (f.cell % 10) LongFile10) k (f.at + 1) (f.cell / 10) → Err x ≡ objects_in d k
     unfolding seventy_tally objects_in
     seventy-broken = tally-broken (seventies d k) k (d k).count e (λ i f. seventy_reasons)
 
-    pub seventy-fine : t.found ≡ false → Fine ≡ objects_in d k
+    pub seventy-fine : t.first ≡ None → Ok tt ≡ objects_in d k
     unfolding seventy_tally objects_in
     seventy-fine = tally-fine (seventies d k) k (d k).count e (λ i f. seventy_reasons)
 

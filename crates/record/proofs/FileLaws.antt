@@ -11,9 +11,9 @@ use lib.Dec.{leb}
 use borrow.Author.Count.{below_more}
 use borrow.Author.Tests.{leb-true}
 use Rattle.record.specs.declared.kind.Kind.{Kind}
-use Rattle.record.specs.declared.kind.Which.TheVariants.{NoFile, File}
+use Rattle.std.specs.Prelude.{None, Some}
 use Rattle.record.specs.Says.{table_of}
-use Rattle.record.specs.declared.kind.Which.{Which}
+use Rattle.record.specs.Table.{Which}
 use Rattle.record.specs.Table.{file_of, file_count, which_of}
 use Rattle.record.specs.Files.{Files, Delivery, delivery_of}
 use Rattle.record.specs.machinery.Columns.{Few, AllFew}
@@ -48,10 +48,10 @@ pub few-end : {d : Delivery} {n : ℕ} → FewBefore d n → file_count < n → 
 few-end {d} s l = record { each = λ k. subst (λ (w : Which). Few d w) (which-file k) (s.each (file_of k) (omega (arith, sane k))) }
 
 -- of one file, by its number's kind
-pub few-none : (d : Delivery) {w : Which} → w ≡ NoFile → Few d w
+pub few-none : (d : Delivery) {w : Which} → w ≡ None → Few d w
 few-none d e = subst (λ (w : Which). Few d w) (sym e) tt
 
 pub few-file :
-    (files : Files) {w : Which} {k : Kind} {own : List ℕ} {n : ℕ} → w ≡ File k → own ≡ files k → n ≡ (table_of own k).count → leb n 512 ≡ true
+    (files : Files) {w : Which} {k : Kind} {own : List ℕ} {n : ℕ} → w ≡ Some k → own ≡ files k → n ≡ (table_of own k).count → leb n 512 ≡ true
     → Few (delivery_of files) w
 few-file files {w} {k} {own} {n} e q h l = subst (λ (w : Which). Few (delivery_of files) w) (sym e) (rw (← q, ← h) (leb-true n 512 l))

@@ -19,8 +19,8 @@ use Rattle.record.specs.declared.kind.Kind.{Kind}
 use Rattle.record.specs.declared.reason.Reason.{Reason}
 use Rattle.record.specs.declared.reason.Reason.TheVariants as R
 use Rattle.record.specs.declared.reason.Break.{Break}
-use Rattle.record.specs.declared.reason.Finding.{Finding}
-use Rattle.record.specs.declared.reason.Finding.TheVariants.{Fine, Broken}
+use Rattle.record.specs.Breaks.{Finding}
+use Rattle.std.specs.Prelude.{Ok, Err}
 use Rattle.record.specs.Table.{fields_of, length_of}
 use Rattle.record.specs.Cut.{count_of, record_of}
 use Rattle.record.specs.Rules.{breaks10, breaks11, twenties}
@@ -30,24 +30,22 @@ pub fine-none : (o : Option Break) → fine (finding_of o) ≡ true → o ≡ no
 fine-none none e = refl
 fine-none (some b) e = absurd (true-false (sym e))
 
-broken-some : (o : Option Break) → fine (finding_of o) ≡ false → (b : Break) × (o ≡ some b)
-broken-some none e = absurd (true-false e)
-broken-some (some b) e = (b, refl)
+pub break-of_err : (o : Option Break) {b : Break} → Err b ≡ finding_of o → o ≡ some b
+break-of_err none e = absurd (true-false (sym (ap fine e)))
+break-of_err (some b') e = ap (λ (v : Finding). elim v [ Ok u ↦ none | Err b ↦ some b ]) (sym e)
 
--- LOOPS over findings: the invariant is `first_of f i ≡ none`, which holds at 0 by first-start. v is what a turn tells.
+-- LOOPS over findings: the invariant is `first_of f i ≡ none`, which holds at 0 by first-start.
 module _ (f : ℕ → Option Break) where
   -- a turn that tells nothing keeps it,
-  pub finding-more : (i : ℕ) {v : Finding} → v ≡ finding_of (f i) → fine v ≡ true → first_of f i ≡ none → first_of f (i + 1) ≡ none
-  finding-more i {v} e h past = first_more f past (fine-none (f i) (rw (← e) h))
+  pub finding-more : (i : ℕ) → Ok tt ≡ finding_of (f i) → first_of f i ≡ none → first_of f (i + 1) ≡ none
+  finding-more i e past = first_more f past (fine-none (f i) (ap fine (sym e)))
 
-  -- what a turn tells is the answer,
-  pub finding-here : (n : ℕ) {i : ℕ} {v : Finding} → v ≡ finding_of (f i) → fine v ≡ false → first_of f i ≡ none → i < n → v ≡ finding_of (first_of f n)
-  finding-here n {i} {v} e h past l =
-      let w = broken-some (f i) (rw (← e) h) in
-      e ∙ ap finding_of (w.1 ∙ sym (first-here f n past l w.1))
+  -- the break that a turn tells is the answer, which the function returns,
+  pub finding-here : (n : ℕ) {i : ℕ} {b : Break} → Err b ≡ finding_of (f i) → first_of f i ≡ none → i < n → Err b ≡ finding_of (first_of f n)
+  finding-here n {i} e past l = ap finding_of (sym (first-here f n past l (break-of_err (f i) e)))
 
   -- and after n turns, which is m, there is none
-  pub finding-end : {i n : ℕ} (m : ℕ) → n ≡ m → i ≤ n → n ≤ i → first_of f i ≡ none → Fine ≡ finding_of (first_of f m)
+  pub finding-end : {i n : ℕ} (m : ℕ) → n ≡ m → i ≤ n → n ≤ i → first_of f i ≡ none → Ok tt ≡ finding_of (first_of f m)
   finding-end m e l u past = ap finding_of (sym (first-end f m e l u past))
 
 -- the first test that holds
@@ -66,19 +64,19 @@ module _ (t : List Bool) (reasons : List Reason) (k : Kind) (i f : ℕ) where
   unfolding run at_place
   place_map = first-map (λ u. get_or t u false) (λ u. break_of (get_or reasons u R.LongFile10) k i f) (length t)
 
-  pub place-broken : {j : ℕ} {b : Break} → j ≡ index_of t (length t) → j < length t → b ≡ break_of (get_or reasons j R.LongFile10) k i f → Broken b ≡ finding_of (run (at_place t reasons k i f))
+  pub place-broken : {j : ℕ} {b : Break} → j ≡ index_of t (length t) → j < length t → b ≡ break_of (get_or reasons j R.LongFile10) k i f → Err b ≡ finding_of (run (at_place t reasons k i f))
   unfolding index_of
   place-broken {j} {b} e l h = go (first_index (λ u. get_or t u false) (length t)) refl e
     where
-      go : (o : Option ℕ) → first_index (λ u. get_or t u false) (length t) ≡ o → j ≡ or_end (length t) o → Broken b ≡ finding_of (run (at_place t reasons k i f))
+      go : (o : Option ℕ) → first_index (λ u. get_or t u false) (length t) ≡ o → j ≡ or_end (length t) o → Err b ≡ finding_of (run (at_place t reasons k i f))
       go none q e = absurd (omega arith)
       go (some u) q e = rw (place_map, q, h, e)
 
-  pub place-fine : {j : ℕ} → j ≡ index_of t (length t) → length t ≤ j → Fine ≡ finding_of (run (at_place t reasons k i f))
+  pub place-fine : {j : ℕ} → j ≡ index_of t (length t) → length t ≤ j → Ok tt ≡ finding_of (run (at_place t reasons k i f))
   unfolding index_of
   place-fine {j} e l = go (first_index (λ u. get_or t u false) (length t)) refl e
     where
-      go : (o : Option ℕ) → first_index (λ u. get_or t u false) (length t) ≡ o → j ≡ or_end (length t) o → Fine ≡ finding_of (run (at_place t reasons k i f))
+      go : (o : Option ℕ) → first_index (λ u. get_or t u false) (length t) ≡ o → j ≡ or_end (length t) o → Ok tt ≡ finding_of (run (at_place t reasons k i f))
       go none q e = rw (place_map, q)
       go (some u) q e = absurd (omega (arith, (index-some-at (λ u. get_or t u false) (length t) q).0))
 
@@ -135,18 +133,18 @@ module _ (s : List ℕ) (k : Kind) where
 
 -- as the code finds it, with n for the record's length
 module _ (s : List ℕ) (k : Kind) {n : ℕ} (e : n ≡ length_of k) where
-  pub shape-long : {b : Break} → 16384 * n < length s → b ≡ break_of R.LongFile10 k 0 0 → Broken b ≡ shape_finding s k
+  pub shape-long : {b : Break} → 16384 * n < length s → b ≡ break_of R.LongFile10 k 0 0 → Err b ≡ shape_finding s k
   unfolding breaks10 then
   shape-long l h = rw (shape_is, lt-ltb (16384 * length_of k) (length s) (omega arith), h)
 
   pub shape-ragged :
       {b : Break} {m : ℕ} → length s ≤ 16384 * n → 0 < length s % n → m ≡ count_of s k → b ≡ break_of R.RaggedFile11 k (m + 1) 0
-      → Broken b ≡ shape_finding s k
+      → Err b ≡ shape_finding s k
   unfolding breaks10 breaks11 then
   shape-ragged l u q h =
       rw (shape_is, le-ltb (16384 * length_of k) (length s) (omega arith), lt-ltb 0 (length s % length_of k) (omega (arith, ap (λ (x : ℕ). length s % x) e)), h, q)
 
-  pub shape-fine : length s ≤ 16384 * n → length s % n ≤ 0 → Fine ≡ shape_finding s k
+  pub shape-fine : length s ≤ 16384 * n → length s % n ≤ 0 → Ok tt ≡ shape_finding s k
   unfolding breaks10 breaks11 then
   shape-fine l u =
       rw (shape_is, le-ltb (16384 * length_of k) (length s) (omega arith), le-ltb 0 (length s % length_of k) (omega (arith, ap (λ (x : ℕ). length s % x) e)))

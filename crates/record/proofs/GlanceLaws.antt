@@ -26,7 +26,7 @@ use Rattle.field.proofs.TextLoops.{padded-past}
 use Rattle.record.specs.declared.kind.Kind.{Kind}
 use Rattle.record.specs.declared.kind.Form.{Form}
 use Rattle.record.specs.declared.kind.Domain.{Domain}
-use Rattle.record.specs.declared.reason.Finding.TheVariants.{Fine}
+use Rattle.std.specs.Prelude.{Ok}
 use Rattle.record.specs.Table.{Col, required, col_at, form_at, width_at, must_at, back_at, ahead_at, domain_at, offset_at, fields_of, length_of, is_n, is_code}
 use Rattle.record.specs.Cut.{text_of}
 use Rattle.record.specs.Rules.{breaks20, breaks21, breaks22, breaks23, breaks24, breaks25, not_number, not_text, missing_in, partners_blank, outside, twenties}
@@ -70,7 +70,7 @@ clean-none : (s : List ℕ) (k : Kind) (i f : ℕ) → Clean s k f → in_record
 unfolding in_record run at_place
 clean-none s k i f h = first-none _ _ (λ u l. hit-false _ _ (falses h u))
 
-record-fine : (s : List ℕ) (k : Kind) → Over (Clean s k) 0 (fields_of k + 1) → (i : ℕ) → record_finding s k i ≡ Fine
+record-fine : (s : List ℕ) (k : Kind) → Over (Clean s k) 0 (fields_of k + 1) → (i : ℕ) → record_finding s k i ≡ Ok tt
 record-fine s k h i = record_is s k i ∙ ap finding_of (first-none (in_record s k i) (fields_of k + 1) (λ f l. clean-none s k i f (h f (omega arith) l)))
 
 -- A TEXT that is full is no blank,
@@ -225,11 +225,11 @@ pub record Seen (s : List ℕ) (k : Kind) (n : ℕ) (b : Bool) : Type 0 where
   pub tells : b ≡ true → Over (Clean s k) 0 n
 
 -- where these are all its places, it has no break
-pub seen-fine : (s : List ℕ) (k : Kind) {b : Bool} → Seen s k (fields_of k + 1) b → b ≡ true → (i : ℕ) → record_finding s k i ≡ Fine
+pub seen-fine : (s : List ℕ) (k : Kind) {b : Bool} → Seen s k (fields_of k + 1) b → b ≡ true → (i : ℕ) → record_finding s k i ≡ Ok tt
 seen-fine s k h e = record-fine s k (h.tells e)
 
 -- and a test that fails tells nothing
-pub seen_none : (s : List ℕ) (k : Kind) → false ≡ true → (i : ℕ) → record_finding s k i ≡ Fine
+pub seen_none : (s : List ℕ) (k : Kind) → false ≡ true → (i : ℕ) → record_finding s k i ≡ Ok tt
 seen_none s k e = absurd (true-false (sym e))
 
 -- the end is place 0

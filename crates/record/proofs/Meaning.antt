@@ -21,8 +21,8 @@ use Rattle.record.specs.declared.kind.Kind.{Kind}
 use Rattle.record.specs.declared.reason.Reason.{Reason}
 use Rattle.record.specs.declared.reason.Reason.TheVariants as R
 use Rattle.record.specs.declared.reason.Break.{Break}
-use Rattle.record.specs.declared.reason.Finding.{Finding}
-use Rattle.record.specs.declared.reason.Finding.TheVariants.{Fine, Broken}
+use Rattle.record.specs.Breaks.{Finding}
+use Rattle.std.specs.Prelude.{Ok, Err}
 use Rattle.record.specs.Cut.{count_of, record_of}
 use Rattle.record.specs.Rules.{twenties}
 use Rattle.record.specs.Breaks.{number_of, break_of, finding_of, at_place, ten_reasons, shape_tests, shape_breaks, twenty_reasons, record_breaks, field_breaks_at, field_breaks, shape_finding, fields_finding, there, tests_at, broken}
@@ -135,7 +135,7 @@ module _ (t : ℕ) (s : List ℕ) (k : Kind) where
   told-break :
       (i f u : ℕ) (b : Break) → get_or (tests_at t s k i f) u false ≡ true → break_of (reason_at t u) k i f ≡ b
       → ((i' f' u' : ℕ) → get_or (tests_at t s k i' f') u' false ≡ true → before (i' ∷ f' ∷ u' ∷ []) (i ∷ f ∷ u ∷ []) ≡ true → ⊥)
-      → Means t s k (Broken b)
+      → Means t s k (Err b)
   unfolding MeansBy broken
   told-break i f u b h e least =
       let w = numbered t u (omega (arith, held (tests_at t s k i f) u h, tests-short t s k i f)) in
@@ -247,7 +247,7 @@ break-one b b' p q r u = λ x. record { reason = p x; file = q x; «record» = r
 
 module _ (t : ℕ) (s : List ℕ) (k : Kind) where
   -- a break's ten is one of the two
-  means-below : (b : Break) → Means t s k (Broken b) → number_of b.reason < 30
+  means-below : (b : Break) → Means t s k (Err b) → number_of b.reason < 30
   unfolding MeansBy broken
   means-below b m =
       let n = number_of b.reason in
@@ -255,7 +255,7 @@ module _ (t : ℕ) (s : List ℕ) (k : Kind) where
       let h = group-few (n / 10) (n % 10) (omega (arith, tests-short (n / 10) s k b.«record» b.field)) in
       omega arith
 
-  not-before : (b b' : Break) → Means t s k (Broken b) → Means t s k (Broken b')
+  not-before : (b b' : Break) → Means t s k (Err b) → Means t s k (Err b')
       → before (b'.«record» ∷ b'.field ∷ number_of b'.reason ∷ []) (b.«record» ∷ b.field ∷ number_of b.reason ∷ []) ≡ false
   unfolding MeansBy
   not-before b b' m m' = go _ refl
@@ -268,19 +268,19 @@ module _ (t : ℕ) (s : List ℕ) (k : Kind) where
 
   pub means-one : (v w : Finding) → Means t s k v → Means t s k w → v ≡ w
   unfolding MeansBy
-  means-one Fine Fine m m' = refl
-  means-one Fine (Broken b) m m' = absurd (true-false (sym m'.2 ∙ m _ _ _ m'.0))
-  means-one (Broken b) Fine m m' = absurd (true-false (sym m.2 ∙ m' _ _ _ m.0))
-  means-one (Broken b) (Broken b') m m' =
+  means-one (Ok u) (Ok w) m m' = refl
+  means-one (Ok u) (Err b) m m' = absurd (true-false (sym m'.2 ∙ m _ _ _ m'.0))
+  means-one (Err b) (Ok u) m m' = absurd (true-false (sym m.2 ∙ m' _ _ _ m.0))
+  means-one (Err b) (Err b') m m' =
       let e = before-total (b.«record» ∷ b.field ∷ number_of b.reason ∷ []) (b'.«record» ∷ b'.field ∷ number_of b'.reason ∷ []) refl (not-before b' b m' m) (not-before b b' m m') in
       let n : number_of b.reason ≡ number_of b'.reason = cc in
       let r : b.«record» ≡ b'.«record» = cc in
       let f : b.field ≡ b'.field = cc in
-      ap Broken (break-one b b' (reason-one b.reason b'.reason n (means-below b m)) (m.1 ∙ sym m'.1) r f)
+      ap Err (break-one b b' (reason-one b.reason b'.reason n (means-below b m)) (m.1 ∙ sym m'.1) r f)
 
   -- the break shown has its number's reason
   pub means-shown :
-      (b : Break) → Means t s k (Broken b)
+      (b : Break) → Means t s k (Err b)
       → b ≡ break_of (get_or (get_or ([] ∷ ten_reasons ∷ twenty_reasons ∷ []) t []) (number_of b.reason % 10) R.LongFile10) k b.«record» b.field
   unfolding MeansBy reason_at group_at
   means-shown b m = break-one b _ (rw m.0 at (sym (known b.reason (means-below b m)))) m.1 refl refl

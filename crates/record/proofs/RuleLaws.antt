@@ -5,7 +5,6 @@ use mathlib.Core.Bool.{false, and-true}
 use mathlib.Core.List.{List}
 use mathlib.Core.Path.{◌≡◌, refl}
 use native.Mathlib.Omega.{arith}
-use types.Run.{miss}
 use lib.ListN.{length, get_or}
 use Rattle.laws.specs.Row.{row, each}
 use Rattle.field.specs.declared.class.Class.TheVariants.{Blank}
@@ -21,7 +20,6 @@ use Rattle.record.specs.declared.kind.Domain.TheVariants.{Any, ObjectType, PlusM
 use Rattle.record.specs.Table.{back_at, ahead_at, is_sign}
 use Rattle.record.specs.Cut.{text_of}
 use Rattle.record.specs.Rules.{partners_blank, word_within}
-use Rattle.record.proofs.SaysLaws.{Among, no_sign}
 
 -- RULES: NA and ND are told of the bytes that are left
 pub not-given-trimmed : (t : List ℕ) {len : ℕ} → len ≡ length (trimmed t) → not_given (first_bytes len t) ≡ not_given (trimmed t)
@@ -39,10 +37,10 @@ domain-first Orientation t u e = refl
 domain-first Justification t u e = refl
 
 -- no form but the sign's is a sign's
-pub no_sign_lem : (form : Form) → Among no_sign form → is_sign form ≡ false
+pub no_sign_lem : (form : Form) → (form ≡ Sign → ⊥) → is_sign form ≡ false
 no_sign_lem Words h = refl
 no_sign_lem Code h = refl
-no_sign_lem Sign h = absurd (miss no_sign 2 tt h)
+no_sign_lem Sign h = absurd (h refl)
 no_sign_lem Number h = refl
 no_sign_lem Size h = refl
 

@@ -3,11 +3,12 @@
 use Prim.Native.Nat.{ℕ, zero, suc, ◌+◌}
 use mathlib.Core.Bool.{Bool, true, false, not, ◌&&◌}
 use mathlib.Core.List.{List, [], ◌∷◌}
+use mathlib.Core.Logic.{◌⊎◌, inl, inr}
 use mathlib.Core.Path.{◌≡◌, refl, sym, ap, ◌∙◌}
 use native.Mathlib.Omega.{arith}
 use borrow.Author.Tests.{ne_eqb}
 use denote.Enum.Declared.{tag_of}
-use types.Run.{OneOf, miss}
+use types.Run.{OneOf}
 use lib.Dec.{eqb}
 use lib.IntN.{ℤ}
 use lib.ListN.{get_or}
@@ -18,12 +19,10 @@ use Rattle.field.specs.Bytes.{all_of}
 use Rattle.field.specs.Digits.{number_written}
 use Rattle.field.specs.Signs.{signed}
 use Rattle.field.specs.Texts.{trimmed, word_of}
-use Rattle.field.specs.machinery.AtOnce.{AtOnce}
 use Rattle.field.proofs.DigitLaws.{blank-number}
 use Rattle.field.proofs.TextLaws.{trimmed-first, trimmed-some}
 use Rattle.record.specs.declared.kind.Form.{Form}
 use Rattle.record.specs.declared.kind.Form.TheVariants.{Words, Code, Sign, Number, Size}
-use Rattle.record.specs.Table.{is_n}
 use Rattle.record.specs.Says.{Said, missing, number, text, coordinate, said_as, is_missing, number_in, key_in, letter_in, place_of, place_in, text_said}
 use Rattle.record.specs.contracts.kind.Form.{the_type}
 
@@ -33,15 +32,6 @@ Among ks form = OneOf ks (tag_of the_type form)
 
 abbrev pub texts : List ℕ
 texts = 0 ∷ 1 ∷ []
-
-abbrev pub no_sign : List ℕ
-no_sign = 0 ∷ 1 ∷ 3 ∷ 4 ∷ []
-
-abbrev pub no_number : List ℕ
-no_number = 0 ∷ 1 ∷ 2 ∷ 4 ∷ []
-
-abbrev pub no_size : List ℕ
-no_size = 0 ∷ 1 ∷ 2 ∷ 3 ∷ []
 
 -- a field that is blank says nothing
 picked : {A : Type 0} (g : Said → A) (a : A) (b : Bool) (x : Said) → (b ≡ true → a ≡ g missing) → (b ≡ false → a ≡ g x) → a ≡ g (pick b missing x)
@@ -77,11 +67,11 @@ module _ (t b : List ℕ) where
   unfolding said_as
   missing-sign form e = rw e
 
-  pub missing-other : (form : Form) → Among no_sign form → all_of Blank t ≡ is_missing (said_as form t b)
+  pub missing-other : (form : Form) → (form ≡ Sign → ⊥) → all_of Blank t ≡ is_missing (said_as form t b)
   unfolding said_as
   missing-other Words h = said-missing _ refl
   missing-other Code h = said-missing _ refl
-  missing-other Sign h = absurd (miss no_sign 2 tt h)
+  missing-other Sign h = absurd (h refl)
   missing-other Number h = said-missing _ refl
   missing-other Size h = said-missing _ refl
 
@@ -90,25 +80,25 @@ module _ (t b : List ℕ) where
   unfolding said_as
   number-said form e = rw e (picked number_in (number_written t) (all_of Blank t) (number (number_written t)) (blank-number t) (λ _. refl))
 
-  pub no_number_lem : (form : Form) → Among no_number form → 0 ≡ number_in (said_as form t b)
+  pub no_number_lem : (form : Form) → (form ≡ Number → ⊥) → 0 ≡ number_in (said_as form t b)
   unfolding said_as
   no_number_lem Words h = said-none number_in _ refl
   no_number_lem Code h = said-none number_in _ refl
   no_number_lem Sign h = refl
-  no_number_lem Number h = absurd (miss no_number 3 tt h)
+  no_number_lem Number h = absurd (h refl)
   no_number_lem Size h = said-none number_in _ refl
 
   -- a reader g has of a field of another form what it has where nothing is said
-  no_size_lem : {A : Type 0} (g : Said → A) → ((n : ℕ) → g missing ≡ g (number n)) → ((l : List ℕ) → g missing ≡ g (text l)) → (form : Form) → Among no_size form
+  no_size_lem : {A : Type 0} (g : Said → A) → ((n : ℕ) → g missing ≡ g (number n)) → ((l : List ℕ) → g missing ≡ g (text l)) → (form : Form) → (form ≡ Size → ⊥)
       → g missing ≡ g (said_as form t b)
   unfolding said_as
   no_size_lem g n l Words h = said-none g _ (l _)
   no_size_lem g n l Code h = said-none g _ (l _)
   no_size_lem g n l Sign h = refl
   no_size_lem g n l Number h = said-none g _ (n _)
-  no_size_lem g n l Size h = absurd (miss no_size 4 tt h)
+  no_size_lem g n l Size h = absurd (h refl)
 
-  pub no_place : (form : Form) → Among no_size form → 0 ≡ place_in (said_as form t b)
+  pub no_place : (form : Form) → (form ≡ Size → ⊥) → 0 ≡ place_in (said_as form t b)
   no_place = no_size_lem place_in (λ _. refl) (λ _. refl)
 
   -- PLACES of a coordinate that is not missing; the code's test is of a minus before a number that is not zero
@@ -122,16 +112,13 @@ module _ (t b : List ℕ) where
   place_read {x} {n} form e m p q y = rw (← y) (place-code (eqb x 45) n ∙ rw (p, q) (place-said form e m))
 
   -- TEXTS
-  as-text : (form : Form) → Among texts form → said_as form t b ≡ text_said t
+  as-text : {form : Form} → (form ≡ Words) ⊎ (form ≡ Code) → said_as form t b ≡ text_said t
   unfolding said_as
-  as-text Words h = refl
-  as-text Code h = refl
-  as-text Sign h = absurd (miss texts 2 tt h)
-  as-text Number h = absurd (miss texts 3 tt h)
-  as-text Size h = absurd (miss texts 4 tt h)
+  as-text (inl e) = rw e
+  as-text (inr e) = rw e
 
-  text-there : (form : Form) → Among texts form → is_missing (said_as form t b) ≡ false → (all_of Blank t ≡ false) × (said_as form t b ≡ text (trimmed t))
-  text-there form h m = there (all_of Blank t) (text (trimmed t)) (said_as form t b) (as-text form h) m
+  text-there : {form : Form} → (form ≡ Words) ⊎ (form ≡ Code) → is_missing (said_as form t b) ≡ false → (all_of Blank t ≡ false) × (said_as form t b ≡ text (trimmed t))
+  text-there {form} h m = there (all_of Blank t) (text (trimmed t)) (said_as form t b) (as-text h) m
 
   -- a reader g has of these fields what it has where nothing is said
   pub none-missing : {A : Type 0} (g : Said → A) (form : Form) → is_missing (said_as form t b) ≡ true → g missing ≡ g (said_as form t b)
@@ -154,23 +141,13 @@ module _ (t b : List ℕ) where
   unfolding said_as
   key-number form e m = ap key_in (sym (there (all_of Blank t) (number (number_written t)) (said_as form t b) (rw e) m).1)
 
-  pub key-text : (form : Form) → Among texts form → is_missing (said_as form t b) ≡ false → word_of (trimmed t) ≡ key_in (said_as form t b)
-  key-text form h m = ap key_in (sym (text-there form h m).1)
+  pub key-text : {form : Form} → (form ≡ Words) ⊎ (form ≡ Code) → is_missing (said_as form t b) ≡ false → word_of (trimmed t) ≡ key_in (said_as form t b)
+  key-text h m = ap key_in (sym (text-there h m).1)
 
-  pub letter-text : (form : Form) → Among texts form → is_missing (said_as form t b) ≡ false → get_or t 0 0 ≡ letter_in (said_as form t b)
-  letter-text form h m =
-      let w = text-there form h m in
+  pub letter-text : {form : Form} → (form ≡ Words) ⊎ (form ≡ Code) → is_missing (said_as form t b) ≡ false → get_or t 0 0 ≡ letter_in (said_as form t b)
+  letter-text h m =
+      let w = text-there h m in
       sym (trimmed-first t (trimmed-some t w.0)) ∙ ap letter_in (sym w.1)
-
-  -- READ AT ONCE: what is not 0 is said, as a number
-  pub number-once : (form : Form) → form ≡ Number → {r : ℕ} → AtOnce t r → (r ≡ 0 → ⊥) → (r ≡ key_in (said_as form t b)) × (r ≡ number_in (said_as form t b) + 1)
-  unfolding said_as
-  number-once form e h z = (h.number z ∙ rw (e, h.there z), h.number z ∙ rw (e, h.there z))
-
-  -- or as a size
-  pub size-once : (form : Form) → form ≡ Size → {r : ℕ} → AtOnce t r → (r ≡ 0 → ⊥) → is_missing (said_as form t b) ≡ false
-  unfolding said_as
-  size-once form e h z = rw (e, h.there z)
 
 -- THE FIELD BEFORE matters to none that has the same of every coordinate
 said-before : {A : Type 0} (g : Said → A) → ((y z : ℤ) → g (coordinate y) ≡ g (coordinate z)) → (form : Form) (t b c : List ℕ) → g (said_as form t b) ≡ g (said_as form t c)
@@ -196,14 +173,6 @@ key-before = said-before key_in (λ y z. refl)
 
 pub letter-before : (form : Form) (t b c : List ℕ) → letter_in (said_as form t b) ≡ letter_in (said_as form t c)
 letter-before = said-before letter_in (λ y z. refl)
-
--- a text is no number
-pub text-no-n : (form : Form) → Among texts form → is_n form ≡ true → ⊥
-text-no-n Words h e = true-false (sym e)
-text-no-n Code h e = true-false (sym e)
-text-no-n Sign h e = true-false (sym e)
-text-no-n Number h e = miss texts 3 tt h
-text-no-n Size h e = miss texts 4 tt h
 
 -- a number's key, missing or not
 pub number-key : (form : Form) (t b : List ℕ) → form ≡ Number → key_in (said_as form t b) ≡ pick (is_missing (said_as form t b)) 0 (number_in (said_as form t b) + 1)

@@ -14,7 +14,7 @@ use Rattle.laws.proofs.RowLaws.{and-true, length-row, row_at, each_at}
 use Rattle.laws.proofs.MatchLaws.{NoneOf, numbers, default-at}
 use Rattle.record.specs.declared.kind.Kind.{Kind}
 use Rattle.record.specs.declared.kind.Kind.TheVariants.{Catalogo, ObPun, ObTex, ObLin, Tramo, Vertice, Nodo, ObComp}
-use Rattle.record.specs.declared.kind.Which.TheVariants.{NoFile, File}
+use Rattle.std.specs.Prelude.{None, Some}
 use Rattle.record.specs.Table.{Col, whole, cols, room_in, room_of, offset_in, length_in, col_at, form_at, width_at, own_at, offset_at, keys_of, kinds, file_count, most_fields, widest, fields_of, length_of, file_of, which_of, is_n}
 
 -- A TABLE: a test of every element holds at every index, where it holds of the default
@@ -150,12 +150,12 @@ pub past : {A : Type 0} (g : Col → A) (k : Kind) (f : ℕ) → 16 ≤ f → g 
 past g k f l = ap g (sym (col-past k f (omega (arith, sane k))))
 
 -- THE FILES' NUMBERS: every other number is no file's,
-pub which-rest : (n : ℕ) → NoneOf (numbers 1 file_count) n → NoFile ≡ which_of n
+pub which-rest : (n : ℕ) → NoneOf (numbers 1 file_count) n → None ≡ which_of n
 unfolding which_of
-which-rest n o = default-at NoFile 1 (map File kinds) n o
+which-rest n o = default-at None 1 (map Some kinds) n o
 
 -- and a file's own is its kind's
-pub which-file : (k : Kind) → which_of (file_of k) ≡ File k
+pub which-file : (k : Kind) → which_of (file_of k) ≡ Some k
 unfolding which_of
 which-file Catalogo = refl
 which-file ObPun = refl

@@ -9,8 +9,7 @@ use Rattle.record.specs.declared.kind.Kind.{Kind}
 use Rattle.record.specs.declared.reason.Reason.{Reason}
 use Rattle.record.specs.declared.reason.Reason.TheVariants as R
 use Rattle.record.specs.declared.reason.Break.{Break}
-use Rattle.record.specs.declared.reason.Finding.{Finding}
-use Rattle.record.specs.declared.reason.Finding.TheVariants.{Fine, Broken}
+use Rattle.std.specs.Prelude.{Result, Ok, Err}
 use Rattle.record.specs.Table.{fields_of, file_of}
 use Rattle.record.specs.Cut.{count_of, record_of}
 use Rattle.record.specs.Rules.{breaks10, breaks11, twenties}
@@ -59,13 +58,17 @@ number_of R.OtherSize86 = 86
 abbrev pub break_of : Reason → Kind → ℕ → ℕ → Break
 break_of reason k i f = record { reason = reason; file = file_of k; «record» = i; field = f }
 
+-- what a search for the first break gives
+abbrev pub Finding : Type 0
+Finding = Result (Unit {0}) Break
+
 abbrev pub finding_of : Option Break → Finding
-finding_of none = Fine
-finding_of (some b) = Broken b
+finding_of none = Ok tt
+finding_of (some b) = Err b
 
 abbrev pub fine : Finding → Bool
-fine Fine = true
-fine (Broken b) = false
+fine (Ok u) = true
+fine (Err b) = false
 
 -- the first of n tests that holds, and n where none does
 unfoldable pub index_of : List Bool → ℕ → ℕ

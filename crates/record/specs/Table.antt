@@ -11,8 +11,7 @@ use Rattle.record.specs.declared.kind.Domain.{Domain}
 use Rattle.record.specs.declared.kind.Domain.TheVariants.{Any, ObjectType, PlusMinus, NodeType, Orientation, Justification}
 use Rattle.record.specs.declared.kind.Target.{Target}
 use Rattle.record.specs.declared.kind.Target.TheVariants.{Free, Nowhere, To}
-use Rattle.record.specs.declared.kind.Which.{Which}
-use Rattle.record.specs.declared.kind.Which.TheVariants.{NoFile, File}
+use Rattle.std.specs.Prelude.{Option, None, Some}
 
 -- when a field may not be missing
 pub data Must : Type 0 where
@@ -181,14 +180,17 @@ fields k = (row_of k).fields
 abbrev pub cols : Kind → List Col
 cols k = whole ∷ fields k
 
--- the kind of a file's number
+-- the kind of a file's number, where there is one
+abbrev pub Which : Type 0
+Which = Option Kind
+
 unfoldable pub which_of : ℕ → Which
-which_of n = get_or (NoFile ∷ map File kinds) n NoFile
+which_of n = get_or (None ∷ map Some kinds) n None
 
 -- a number of a file, and 0 where there is none
 unfoldable pub on_file : (Kind → ℕ) → Which → ℕ
-on_file g NoFile = 0
-on_file g (File k) = g k
+on_file g None = 0
+on_file g (Some k) = g k
 
 -- a field's bytes with the byte after them; place 0 takes none
 abbrev pub room_in : ℕ → ℕ

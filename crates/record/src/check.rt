@@ -7,23 +7,22 @@ ghost use Rattle.record.specs.Breaks.{break_of, finding_of, at_place, twenty_rea
 use crate::cut::{record_bytes, records};
 use crate::glance::plainly_lawful;
 use crate::kind::{Kind, LIMIT};
-use crate::reason::{Break, Finding, Reason};
+use crate::reason::{Break, Reason};
 use crate::rules::tests;
 
 // The index of the first test that holds, and their number where none does.
 pub fn first_true(t: &[bool]) -> usize
     ensures { result ≡ index_of t.now (length t.now) }
 {
-    let mut j = 0;
-    while j < t.len() {
-        if t[j] {
+    for (j, holds) in t.iter().enumerate() {
+        if *holds {
             return j;
         }
-        j += 1;
     }
     t.len()
 }
 
+// (A match is a table; an array would be built anew at each read.)
 fn twenty_reason(j: usize) -> Reason
     ensures { result ≡ get_or twenty_reasons j Reason.LongFile10 }
 {
@@ -50,66 +49,52 @@ pub fn break_of(reason: Reason, k: Kind, i: usize, f: usize) -> Break
 }
 
 // The first break of a place of a record, which is told as record i.
-fn check_place(rec: &[u8], k: Kind, i: usize, f: usize) -> Finding
+fn check_place(rec: &[u8], k: Kind, i: usize, f: usize) -> Result<(), Break>
     requires { f < 256 }
     ensures { result ≡ finding_of (run (at_place (twenties rec.now k f) twenty_reasons k i f)) }
 {
     let t = tests(rec, k, f);
     let j = first_true(&t);
     if j < 6 {
-        Finding::Broken(break_of(twenty_reason(j), k, i, f))
+        Err(break_of(twenty_reason(j), k, i, f))
     } else {
-        Finding::Fine
+        Ok(())
     }
 }
 
 // The first break of a record's bytes, which is told as record i. Most records are lawful, and a glance tells it.
-pub fn check_record(rec: &[u8], k: Kind, i: usize) -> Finding
+pub fn check_record(rec: &[u8], k: Kind, i: usize) -> Result<(), Break>
     ensures { result ≡ record_finding rec.now k i }
 {
     if plainly_lawful(rec, k) {
-        return Finding::Fine;
+        return Ok(());
     }
-    let n = k.fields() + 1;
-    let mut f = 0;
-    while f < n {
-        let v = check_place(rec, k, i, f);
-        if v.is_fine() {
-            f += 1;
-        } else {
-            return v;
-        }
+    for f in 0..k.fields() + 1 {
+        check_place(rec, k, i, f)?;
     }
-    Finding::Fine
+    Ok(())
 }
 
 // The first break of the fields of a file's whole records.
-pub fn check_fields(s: &[u8], k: Kind) -> Finding
+pub fn check_fields(s: &[u8], k: Kind) -> Result<(), Break>
     ensures { result ≡ fields_finding s.now k }
 {
-    let n = records(s, k);
-    let mut i = 0;
-    while i < n {
-        let v = check_record(record_bytes(s, k, i), k, i + 1);
-        if v.is_fine() {
-            i += 1;
-        } else {
-            return v;
-        }
+    for i in 0..records(s, k) {
+        check_record(record_bytes(s, k, i), k, i + 1)?;
     }
-    Finding::Fine
+    Ok(())
 }
 
 // The first break of a file's shape.
-pub fn check_shape(s: &[u8], k: Kind) -> Finding
+pub fn check_shape(s: &[u8], k: Kind) -> Result<(), Break>
     ensures { result ≡ shape_finding s.now k }
 {
     let n = k.length();
     if LIMIT * n < s.len() {
-        return Finding::Broken(break_of(Reason::LongFile10, k, 0, 0));
+        return Err(break_of(Reason::LongFile10, k, 0, 0));
     }
     if 0 < s.len() % n {
-        return Finding::Broken(break_of(Reason::RaggedFile11, k, records(s, k) + 1, 0));
+        return Err(break_of(Reason::RaggedFile11, k, records(s, k) + 1, 0));
     }
-    Finding::Fine
+    Ok(())
 }

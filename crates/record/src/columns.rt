@@ -8,7 +8,7 @@ ghost use Rattle.record.specs.Says.{said_in, said_as, table_of, is_missing, numb
 use crate::cut::{field, record_bytes, records};
 use crate::kind::{Form, Kind, LIMIT};
 use field::class::{Class, byte};
-use field::number::{get_number, number_at_once};
+use field::number;
 use field::words::word;
 
 // What is said in a field of a form, by its bytes. Only of a coordinate's size the bytes before it matter, which are its sign.
@@ -26,12 +26,12 @@ pub fn number_in(form: Form, t: &[u8]) -> u64
     ensures small { result < 2 ^ 38 }
 {
     match form {
-        Form::Number => get_number(t),
+        Form::Number => number::number_in(t),
         _ => 0,
     }
 }
 
-// What is said as one number.
+// What is said as one number, and 0 where nothing is, as the definition key_in has it: so no Option.
 pub fn key_in(form: Form, t: &[u8]) -> u64
     ensures value { result ≡ key_in (said_as form t.now []) }
     ensures narrow { is_n form ≡ true → result ≤ 2 ^ 38 }
@@ -40,10 +40,9 @@ pub fn key_in(form: Form, t: &[u8]) -> u64
         return 0;
     }
     match form {
-        Form::Sign => 0,
-        Form::Number => get_number(t) + 1,
-        Form::Size => 0,
-        _ => word(t),
+        Form::Number => number::number_in(t) + 1,
+        Form::Sign | Form::Size => 0,
+        Form::Words | Form::Code => word(t),
     }
 }
 
@@ -54,10 +53,8 @@ pub fn letter_in(form: Form, t: &[u8]) -> u8
         return 0;
     }
     match form {
-        Form::Sign => 0,
-        Form::Number => 0,
-        Form::Size => 0,
-        _ => byte(t, 0),
+        Form::Sign | Form::Number | Form::Size => 0,
+        Form::Words | Form::Code => byte(t, 0),
     }
 }
 
@@ -71,86 +68,22 @@ pub fn place_in(form: Form, t: &[u8], b: &[u8]) -> u64
     }
     match form {
         Form::Size => {
-            let n = get_number(t);
+            let n = number::number_in(t);
             if (byte(b, 0) == 45) & (n != 0) {
-                return n + n;
+                n + n
+            } else {
+                n + n + 1
             }
-            n + n + 1
         }
         _ => 0,
     }
-}
-
-// THE SAME for a column of a file, mostly at once: without a loop over the digits, where the field has a usual width and no byte below a digit.
-
-// What is said as one number where it is read at once, else 0.
-fn key_at_once(form: Form, t: &[u8]) -> u64
-    ensures value { (result ≡ 0 → ⊥) → (result ≡ key_in (said_as form t.now [])) × (result ≡ number_in (said_as form t.now []) + 1) }
-    ensures small { result ≤ 2 ^ 38 }
-{
-    match form {
-        Form::Number => number_at_once(t),
-        _ => 0,
-    }
-}
-
-// As key_in.
-pub(crate) fn quick_key(form: Form, t: &[u8]) -> u64
-    ensures value { result ≡ key_in (said_as form t.now []) }
-    ensures narrow { is_n form ≡ true → result ≤ 2 ^ 38 }
-{
-    let x = key_at_once(form, t);
-    if x == 0 { key_in(form, t) } else { x }
-}
-
-// As number_in.
-pub(crate) fn quick_number(form: Form, t: &[u8]) -> u64
-    ensures value { result ≡ number_in (said_as form t.now []) }
-    ensures small { result < 2 ^ 38 }
-{
-    let x = key_at_once(form, t);
-    if x == 0 { number_in(form, t) } else { x - 1 }
-}
-
-// The coordinate as one number where its size is read at once, else 0.
-fn place_at_once(form: Form, t: &[u8], b: &[u8]) -> u64
-    ensures value { (result ≡ 0 → ⊥) → result ≡ place_in (said_as form t.now b.now) }
-    ensures narrow { result < 2 ^ 40 }
-{
-    match form {
-        Form::Size => {
-            let x = number_at_once(t);
-            if x == 0 {
-                return 0;
-            }
-            let n = x - 1;
-            if (byte(b, 0) == 45) & (n != 0) {
-                return n + n;
-            }
-            n + n + 1
-        }
-        _ => 0,
-    }
-}
-
-// As place_in.
-pub(crate) fn quick_place(form: Form, t: &[u8], b: &[u8]) -> u64
-    ensures value { result ≡ place_in (said_as form t.now b.now) }
-    ensures narrow { result < 2 ^ 40 }
-{
-    let x = place_at_once(form, t, b);
-    if x == 0 { place_in(form, t, b) } else { x }
 }
 
 // The field before, and nothing before the first.
 fn field_before(rec: &[u8], k: Kind, f: usize) -> &[u8]
     ensures { result.now ≡ text_of rec.now k (f - 1) }
 {
-    if 0 < f {
-        field(rec, k, f - 1)
-    } else {
-        field(rec, k, 0)
-    }
+    field(rec, k, f.saturating_sub(1))
 }
 
 pub fn is_missing(s: &[u8], k: Kind, i: usize, f: usize) -> bool
@@ -194,6 +127,5 @@ pub fn rows(s: &[u8], k: Kind) -> usize
     ensures value { result ≡ (table_of s.now k).count }
     ensures small { result ≤ limit }
 {
-    let n = records(s, k);
-    if LIMIT < n { LIMIT } else { n }
+    records(s, k).min(LIMIT)
 }

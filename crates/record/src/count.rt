@@ -9,20 +9,12 @@ use crate::glance::plainly_lawful;
 use crate::kind::{Kind, LIMIT};
 use crate::rules::tests;
 
-// 1 where a test holds, else 0.
-fn one_if(test: bool) -> u64
-    ensures value { result ≡ bit test }
-    ensures most { result ≤ 1 }
-{
-    if test { 1 } else { 0 }
-}
-
 // How many breaks a file's shape has.
 pub fn count_shape(s: &[u8], k: Kind) -> u64
     ensures { result ≡ shape_many s.now k }
 {
     let n = k.length();
-    one_if(LIMIT * n < s.len()) + one_if(0 < s.len() % n)
+    u64::from(LIMIT * n < s.len()) + u64::from(0 < s.len() % n)
 }
 
 // How many tests hold.
@@ -31,10 +23,8 @@ fn count_true(t: &[bool]) -> u64
     ensures most { result ≤ length t.now }
 {
     let mut many: u64 = 0;
-    let mut j = 0;
-    while j < t.len() {
-        many += one_if(t[j]);
-        j += 1;
+    for holds in t {
+        many += u64::from(*holds);
     }
     many
 }
@@ -57,12 +47,9 @@ fn count_record(rec: &[u8], k: Kind) -> u64
     if plainly_lawful(rec, k) {
         return 0;
     }
-    let n = k.fields() + 1;
     let mut many: u64 = 0;
-    let mut f = 0;
-    while f < n {
+    for f in 0..=k.fields() {
         many += count_place(rec, k, f);
-        f += 1;
     }
     many
 }
@@ -72,12 +59,9 @@ fn count_record(rec: &[u8], k: Kind) -> u64
 pub fn count_fields(s: &[u8], k: Kind) -> u64
     ensures { result ≡ fields_many s.now k }
 {
-    let n = rows(s, k);
     let mut many: u64 = 0;
-    let mut i = 0;
-    while i < n {
+    for i in 0..rows(s, k) {
         many += count_record(record_bytes(s, k, i), k);
-        i += 1;
     }
     many
 }

@@ -18,7 +18,7 @@ pub fn part(t: &[u8], a: usize, n: usize) -> &[u8]
     &t[a..e]
 }
 
-// The same, where the slice is known to have them.
+// The same, where the slice is known to have them: a column's loop asks no more of each record.
 pub(crate) fn part_there(t: &[u8], a: usize, n: usize) -> &[u8]
     requires { a + n ≤ length t.now }
     ensures { result.now ≡ take n (drop a t.now) }

@@ -4,7 +4,7 @@ ghost use Rattle.record.specs.Files.{files_of, delivery_of};
 ghost use Rattle.record.specs.machinery.Columns.{Few, AllFew};
 
 use crate::columns::rows;
-use crate::kind::{FEW, FILES, Kind, Which, kind_of};
+use crate::kind::{FEW, FILES, Kind, kind_of};
 
 // The bytes of a kind's file.
 pub fn file_of<'a>(files: [&'a [u8]; FILES], k: Kind) -> &'a [u8]
@@ -14,12 +14,12 @@ pub fn file_of<'a>(files: [&'a [u8]; FILES], k: Kind) -> &'a [u8]
     files[n]
 }
 
-fn is_few<'a>(which: Which, files: [&'a [u8]; FILES]) -> bool
+fn is_few<'a>(which: Option<Kind>, files: [&'a [u8]; FILES]) -> bool
     ensures { result ≡ true → Few (delivery_of (files_of (map (λ x. x.now) files.entry))) which }
 {
     match which {
-        Which::NoFile => true,
-        Which::File(k) => rows(file_of(files, k), k) <= FEW,
+        None => true,
+        Some(k) => rows(file_of(files, k), k) <= FEW,
     }
 }
 
@@ -27,11 +27,8 @@ fn is_few<'a>(which: Which, files: [&'a [u8]; FILES]) -> bool
 pub fn all_few<'a>(files: [&'a [u8]; FILES]) -> bool
     ensures { result ≡ true → AllFew (delivery_of (files_of (map (λ x. x.now) files.entry))) }
 {
-    let mut n = 0;
-    while n <= FILES {
-        if is_few(kind_of(n), files) {
-            n += 1;
-        } else {
+    for n in 0..FILES + 1 {
+        if !is_few(kind_of(n), files) {
             return false;
         }
     }

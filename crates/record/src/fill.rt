@@ -1,6 +1,8 @@
 // Columns of names, keys and places, read once into lent room. Where the room is too short for the file's records, none is read.
 //
 // Where a field stands in its record is looked up once for a column, and not once for a record: `at` is where the record in hand starts.
+// So each column has a loop of its own: one loop that took what is read as a closure would have to require of each closure once more where
+// its fields stand and how wide they are.
 ghost use Rattle.std.specs.Prelude.{◌≡◌, ℕ, ◌-◌, ◌^◌};
 ghost use Rattle.laws.specs.Row.{Narrow};
 ghost use Rattle.record.specs.Says.{table_of, key_in, place_in};
@@ -8,7 +10,7 @@ ghost use Rattle.record.specs.Table.{keys_of};
 ghost use Rattle.record.specs.Names.{name_at, key_of};
 ghost use Rattle.record.specs.machinery.Columns.{ReadInto};
 
-use crate::columns::{quick_key, quick_number, quick_place, rows};
+use crate::columns::{key_in, number_in, place_in, rows};
 use crate::cut::part_there;
 use crate::kind::Kind;
 use crate::names::name;
@@ -33,12 +35,10 @@ pub fn fill_names(s: &[u8], k: Kind, f: usize, out: &mut [u64]) -> usize
     let offset = k.offset(f);
     let width = k.width(f);
     let mut at = 0;
-    let mut i = 0;
-    while i < n {
-        let x = quick_key(form, part_there(s, at + offset, width));
+    for i in 0..n {
+        let x = key_in(form, part_there(s, at + offset, width));
         out[i] = name_by(s, k, i, f, x);
         at += k.length();
-        i += 1;
     }
     n
 }
@@ -59,13 +59,11 @@ fn fill_pair_keys(s: &[u8], k: Kind, out: &mut [u64]) -> usize
     let order_offset = k.offset(2);
     let order_width = k.width(2);
     let mut at = 0;
-    let mut i = 0;
-    while i < n {
-        let line = quick_key(form, part_there(s, at + offset, width));
-        let order = quick_number(order_form, part_there(s, at + order_offset, order_width));
+    for i in 0..n {
+        let line = key_in(form, part_there(s, at + offset, width));
+        let order = number_in(order_form, part_there(s, at + order_offset, order_width));
         out[i] = line * 100000 + order;
         at += k.length();
-        i += 1;
     }
     n
 }
@@ -85,7 +83,7 @@ pub fn fill_keys(s: &[u8], k: Kind, out: &mut [u64]) -> usize
 fn sign_field(f: usize) -> usize
     ensures { result ≡ f - 1 }
 {
-    if 0 < f { f - 1 } else { 0 }
+    f.saturating_sub(1)
 }
 
 // What is said as a place (a coordinate as one number) in field f of each record of the file.
@@ -104,12 +102,10 @@ pub fn fill_places(s: &[u8], k: Kind, f: usize, out: &mut [u64]) -> usize
     let sign = k.offset(g);
     let sign_width = k.width(g);
     let mut at = 0;
-    let mut i = 0;
-    while i < n {
+    for i in 0..n {
         let b = part_there(s, at + sign, sign_width);
-        out[i] = quick_place(form, part_there(s, at + offset, width), b);
+        out[i] = place_in(form, part_there(s, at + offset, width), b);
         at += k.length();
-        i += 1;
     }
     n
 }

@@ -46,13 +46,6 @@ pub enum Kind {
     ObComp,
 }
 
-// The kind of a file's number, where there is one.
-#[derive(Clone, Copy)]
-pub enum Which {
-    NoFile,
-    File(Kind),
-}
-
 // What a field holds: words, a CODIGO, a coordinate's sign; a number, the size of a coordinate.
 #[derive(Clone, Copy)]
 pub enum Form {
@@ -88,41 +81,30 @@ impl Form {
     pub fn is_n(self) -> bool
         ensures { result ≡ is_n self }
     {
-        match self {
-            Form::Words => false,
-            Form::Code => false,
-            Form::Sign => false,
-            Form::Number => true,
-            Form::Size => true,
-        }
+        matches!(self, Form::Number | Form::Size)
     }
 
     pub fn is_code(self) -> bool
         ensures { result ≡ is_code self }
     {
-        match self {
-            Form::Words => false,
-            Form::Code => true,
-            Form::Sign => false,
-            Form::Number => false,
-            Form::Size => false,
-        }
+        matches!(self, Form::Code)
     }
 }
 
-pub fn kind_of(file: usize) -> Which
+// The kind of a file's number, where there is one.
+pub fn kind_of(file: usize) -> Option<Kind>
     ensures { result ≡ which_of file }
 {
     match file {
-        1 => Which::File(Kind::Catalogo),
-        2 => Which::File(Kind::ObPun),
-        3 => Which::File(Kind::ObTex),
-        4 => Which::File(Kind::ObLin),
-        5 => Which::File(Kind::Tramo),
-        6 => Which::File(Kind::Vertice),
-        7 => Which::File(Kind::Nodo),
-        8 => Which::File(Kind::ObComp),
-        _ => Which::NoFile,
+        1 => Some(Kind::Catalogo),
+        2 => Some(Kind::ObPun),
+        3 => Some(Kind::ObTex),
+        4 => Some(Kind::ObLin),
+        5 => Some(Kind::Tramo),
+        6 => Some(Kind::Vertice),
+        7 => Some(Kind::Nodo),
+        8 => Some(Kind::ObComp),
+        _ => None,
     }
 }
 
@@ -143,7 +125,7 @@ impl Kind {
         }
     }
 
-    // The letter of its objects' catalogue type, 0 where it has none.
+    // The letter of its objects' catalogue type, 0 where it has none, as the definition letter_of has it.
     pub fn letter(self) -> u8
         ensures { result ≡ letter_of self }
     {
@@ -207,7 +189,7 @@ impl Kind {
         }
     }
 
-    // The field of X, 0 where it has none; Y is two fields after it, Z four.
+    // The field of X, 0 where it has none, as the definition x_field has it; Y is two fields after it, Z four.
     pub fn x_field(self) -> usize
         ensures value { result ≡ x_field self }
         ensures small { result ≤ most_fields }

@@ -1,6 +1,6 @@
 // Reasons, breaks and findings: the one answer of every layer.
 ghost use Rattle.std.specs.Prelude.{◌≡◌};
-ghost use Rattle.record.specs.Breaks.{number_of, fine};
+ghost use Rattle.record.specs.Breaks.{number_of};
 
 // The reasons of documents 01 and 02, each with its number in its name.
 #[derive(Clone, Copy)]
@@ -93,13 +93,6 @@ pub struct Break {
     pub field: usize,
 }
 
-// What a search for the first break gives.
-#[derive(Clone, Copy)]
-pub enum Finding {
-    Fine,
-    Broken(Break),
-}
-
 impl Reason {
     // Document 01's number.
     pub fn number(self) -> u8
@@ -144,17 +137,6 @@ impl Reason {
             Reason::OtherKeys84 => 84,
             Reason::OtherCount85 => 85,
             Reason::OtherSize86 => 86,
-        }
-    }
-}
-
-impl Finding {
-    pub fn is_fine(self) -> bool
-        ensures { result ≡ fine self }
-    {
-        match self {
-            Finding::Fine => true,
-            Finding::Broken(_) => false,
         }
     }
 }

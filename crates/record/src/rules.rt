@@ -67,25 +67,14 @@ fn blank_field(rec: &[u8], k: Kind, f: usize) -> bool
     Class::Blank.all(field(rec, k, f))
 }
 
-// a - b, and 0 where b is the greater.
-fn minus(a: usize, b: usize) -> usize
-    ensures { result ≡ a - b }
-{
-    if b <= a { a - b } else { 0 }
-}
-
 // Whether a field and its partners are all blank.
 fn partners_blank(rec: &[u8], k: Kind, f: usize) -> bool
     requires { f < 256 }
     ensures { result ≡ partners_blank rec.now k f }
 {
-    let from = minus(f, k.back(f));
-    let n = k.back(f) + k.ahead(f) + 1;
-    let mut j = 0;
-    while j < n {
-        if blank_field(rec, k, from + j) {
-            j += 1;
-        } else {
+    let from = f.saturating_sub(k.back(f));
+    for j in 0..=k.back(f) + k.ahead(f) {
+        if !blank_field(rec, k, from + j) {
             return false;
         }
     }

@@ -5,7 +5,7 @@ ghost use Rattle.laws.specs.Row.{pick};
 ghost use Rattle.record.specs.Table.{whole, offset_in, required, form_at, width_at, must_at, back_at, ahead_at, domain_at, target_of, own_at, offset_at};
 ghost use Rattle.record.specs.machinery.Packed.{digit_of, digit_at, packed_of, form_digit, form_of, domain_digit, domain_of, target_file, target_field, target_by};
 
-use crate::kind::{Domain, Form, Kind, Target, Which, kind_of};
+use crate::kind::{Domain, Form, Kind, Target, kind_of};
 
 // The digit of a place in a kind's number,
 fn digit(n: u64, f: usize) -> usize
@@ -23,6 +23,7 @@ fn digit_at(n: u64, f: usize) -> usize
     if f < 16 { digit(n, f) } else { 0 }
 }
 
+// (No From: these digits are this file's alone, and one of no form is read as words.)
 fn form_of(n: usize) -> Form
     ensures { result ≡ form_of n }
 {
@@ -35,6 +36,7 @@ fn form_of(n: usize) -> Form
     }
 }
 
+// (Nor here.)
 fn domain_of(n: usize) -> Domain
     ensures { result ≡ domain_of n }
 {
@@ -56,8 +58,8 @@ fn target_by(file: usize, field: usize) -> Target
         return Target::Nowhere;
     }
     match kind_of(file) {
-        Which::NoFile => Target::Free,
-        Which::File(k) => Target::To(k, field),
+        None => Target::Free,
+        Some(k) => Target::To(k, field),
     }
 }
 

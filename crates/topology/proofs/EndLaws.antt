@@ -19,8 +19,7 @@ use Rattle.laws.proofs.RowLaws.{picked}
 use Rattle.index.specs.Keys.{listed, first_duplicate}
 use Rattle.index.specs.Look.{Sought, key_line}
 use Rattle.index.specs.Marks.{Marked}
-use Rattle.index.specs.declared.Found.{Found}
-use Rattle.index.specs.declared.Found.TheVariants.{At, Nothing}
+use Rattle.std.specs.Prelude.{Option, Some, None}
 use Rattle.index.proofs.LookLaws.{sought-record, sought-yes, sought-none}
 use Rattle.index.proofs.MarkLaws.{marked-as}
 use Rattle.index.proofs.OrderLaws.{less-or}
@@ -92,25 +91,21 @@ module _ (vertices nodes : Table) (key name : ℕ) where
   meets_any e = e
 
   module _ (j : ℕ) {v : ℕ} (e : v ≡ key_of Vertice vertices j) where
-    pub meets-other : (v ≡ key → ⊥) → meets_at vertices nodes key name j ≡ false
-    unfolding meets_at
-    meets-other h = rw (← e, ne_eqb _ _ h)
-
     pub meets-key : {x y : ℕ} {r : Bool} → v ≡ key → x ≡ x_at Vertice vertices j → y ≡ y_at Vertice vertices j → r ≡ node_in nodes name x y
         → meets_at vertices nodes key name j ≡ r
     unfolding meets_at
     meets-key h p q s = rw (← e, eq-eqb _ _ h, ← p, ← q, s)
 
   -- ELSEWHERE, where f is what a look-up of the vertex says
-  module _ {keys : List ℕ} {n : ℕ} (lent : Fills keys (key_of Vertice vertices) vertices.count n) {f : Found} (s : Sought keys n key f) where
-    pub elsewhere-none : f ≡ Nothing → false ≡ elsewhere vertices nodes key name
+  module _ {keys : List ℕ} {n : ℕ} (lent : Fills keys (key_of Vertice vertices) vertices.count n) {f : Option ℕ} (s : Sought keys n key f) where
+    pub elsewhere-none : f ≡ None → false ≡ elsewhere vertices nodes key name
     elsewhere-none e = rw (← names-lent lent key, ← sought-none keys n key s e)
 
-    pub elsewhere-found : {j : ℕ} {r : Bool} → f ≡ At j → r ≡ meets vertices nodes key name → not r ≡ elsewhere vertices nodes key name
+    pub elsewhere-found : {j : ℕ} {r : Bool} → f ≡ Some j → r ≡ meets vertices nodes key name → not r ≡ elsewhere vertices nodes key name
     elsewhere-found e h = rw (← names-lent lent key, ← sought-yes keys n key s e, h)
 
     pub elsewhere-met :
-        {j x y : ℕ} {r : Bool} → f ≡ At j → x ≡ x_at Vertice vertices j → y ≡ y_at Vertice vertices j → r ≡ node_in nodes name x y → r ≡ true
+        {j x y : ℕ} {r : Bool} → f ≡ Some j → x ≡ x_at Vertice vertices j → y ≡ y_at Vertice vertices j → r ≡ node_in nodes name x y → r ≡ true
         → false ≡ elsewhere vertices nodes key name
     elsewhere-met {j} e p q h t =
         let at = sought-record keys n key s e in
@@ -118,7 +113,7 @@ module _ (vertices nodes : Table) (key name : ℕ) where
         elsewhere-found e (meets_any (sym (any-true _ _ u (meets-key j (lent.holds j u) at.1 p q h ∙ t))))
 
     pub elsewhere-apart :
-        {j x y : ℕ} {r : Bool} → first_duplicate (listed keys) n ≡ none → f ≡ At j → x ≡ x_at Vertice vertices j → y ≡ y_at Vertice vertices j
+        {j x y : ℕ} {r : Bool} → first_duplicate (listed keys) n ≡ none → f ≡ Some j → x ≡ x_at Vertice vertices j → y ≡ y_at Vertice vertices j
         → r ≡ node_in nodes name x y → r ≡ false → true ≡ elsewhere vertices nodes key name
     unfolding meets
     elsewhere-apart d e p q h t =

@@ -1,3 +1,5 @@
+pub mod ChainLaws
+pub mod EachLaws
 pub mod LentLaws
 pub mod TopLaws
 pub mod OrderRules

@@ -1,7 +1,7 @@
 -- The laws of what a node is (specs/machinery/Nodes.antt): which vertices are a line's first or last, nodes at their places and at those of the
 -- others, and 56 and 58 by the marks that say what a node is not.
 -- Assumes nothing.
-use Prim.Native.Nat.{ℕ, zero, suc, ◌<◌, ◌≤◌, ◌%◌}
+use Prim.Native.Nat.{ℕ, zero, suc, ◌<◌, ◌≤◌}
 use mathlib.Core.Bool.{Bool, true, false, not, ◌&&◌, ◌||◌}
 use mathlib.Core.List.{List}
 use mathlib.Core.Path.{◌≡◌, refl, sym, ap, ap₂, ◌∙◌}
@@ -16,7 +16,6 @@ use Rattle.laws.proofs.RowLaws.{neither}
 use Rattle.index.specs.Keys.{listed}
 use Rattle.index.specs.Look.{key_line}
 use Rattle.index.specs.Marks.{Marked, is_marked}
-use Rattle.index.specs.declared.way.Way.{Way}
 use Rattle.index.proofs.MarkLaws.{marked-as, marked-at}
 use Rattle.record.specs.declared.kind.Kind.TheVariants.{ObPun, Vertice, Nodo}
 use Rattle.record.specs.machinery.Columns.{Fills}
@@ -26,19 +25,10 @@ use Rattle.topology.specs.Rules.{x_at, y_at, placed, order_of, highest_in, ends_
 use Rattle.topology.specs.machinery.Nodes.{Tips, asks_place, idle_by, odd_by}
 use Rattle.topology.specs.machinery.Places.{Positions}
 use Rattle.topology.specs.machinery.Spotted.{sorted_at, any_sorted}
-use Rattle.topology.specs.machinery.Tops.{Tops}
 use Rattle.topology.proofs.EndLaws.{highest-lent}
 use Rattle.topology.proofs.UsedLaws.{hand-marks}
 
--- A LINE'S FIRST AND LAST vertex, by the highest key of its line
-pub tip-is :
-    {keys lines order hints tops : List ℕ} {n : ℕ} {way : Way} → Tops keys lines order hints tops n way n → {j top : ℕ} → j < n
-    → top ≡ highest_in (listed keys) (get_or lines j 0) n → (eqb (get_or keys j 0 % 100000) 1 || eqb (get_or keys j 0) top) ≡ is_tip (listed keys) n j
-unfolding is_tip
-tip-is {keys} {n = n} s {j} l e =
-    ap (λ (h : ℕ). eqb (get_or keys j 0 % 100000) 1 || eqb (get_or keys j 0) h) (e ∙ ap (λ (line : ℕ). highest_in (listed keys) line n) (s.of.each j l))
-
--- and by the column of the keys
+-- A LINE'S FIRST AND LAST vertex, by the column of the keys
 pub tips-lent :
     {keys before tips : List ℕ} (t : Table) {n : ℕ} → Fills keys (key_of Vertice t) t.count n → n ≤ length before → Marked before tips (is_tip (listed keys) n) n
     → Tips tips t
@@ -166,16 +156,6 @@ module _
         (ap (λ (b : Bool). not (is_marked loose i && b)) (off-tips i l) ∙ an-end (is_marked loose i) (vertex_with tip vertices (x_at Nodo nodes i) (y_at Nodo nodes i)))
         (ap not (off-others i l) ∙ not-not (is_middle vertices nodes i)))
         m
-
--- A NODE whose place matters, and one whose code disagrees, by what is read of them
-pub asks-is :
-    (loose few : List ℕ) (nodes : Table) (i : ℕ) {l : ℕ} {b : Bool} → l ≡ letter_in (nodes.says i 2)
-    → (not (eqb l 0) || (eqb (get_or loose i 0) 1 && eqb (get_or few i 0) 1)) ≡ b → asks_place loose few nodes i ≡ b
-unfolding asks_place
-asks-is loose few nodes i e h = rw (← e) h
-
-pub odd_is : (e m : Bool) {l c mark : ℕ} {r : Bool} → mark ≡ bit (not r) → r ≡ agrees l e m → l ≡ c → mark ≡ bit (not (agrees c e m))
-odd_is e m p q k = p ∙ ap (λ (b : Bool). bit (not b)) (q ∙ ap (λ (x : ℕ). agrees x e m) k)
 
 -- WHERE NO NODE'S PLACE MATTERS neither is broken
 module _ (loose few : List ℕ) (vertices nodes : Table) {n : ℕ} (none : any (asks_place loose few nodes) n ≡ false) where

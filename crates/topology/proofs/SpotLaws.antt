@@ -1,7 +1,7 @@
 -- The laws of places as numbers (specs/machinery/Places.antt): columns read into lent room, pairs of columns that tell places apart, marks of
 -- what is repeated, and spots, which are equal where places are.
 -- Assumes nothing.
-use Prim.Native.Nat.{ℕ, ◌<◌, ◌≤◌}
+use Prim.Native.Nat.{ℕ, ◌<◌}
 use mathlib.Core.Bool.{Bool, true, false, not, ◌&&◌, and_assoc}
 use mathlib.Core.List.{List}
 use mathlib.Core.Option.{none}
@@ -21,21 +21,10 @@ use Rattle.index.proofs.MarkLaws.{marked-as}
 use Rattle.record.specs.declared.kind.Kind.{Kind}
 use Rattle.record.specs.declared.kind.Kind.TheVariants.{Vertice, Nodo}
 use Rattle.record.specs.Says.{Table}
-use Rattle.record.specs.machinery.Columns.{Fills, ReadInto}
+use Rattle.record.specs.machinery.Columns.{Fills}
 use Rattle.topology.specs.Rules.{x_at, y_at, z_at, same_place, placed_before, placed}
 use Rattle.topology.specs.machinery.Places.{spot_of, same_in, Positions, Nodes}
 use Rattle.topology.specs.machinery.Used.{}
-use Rattle.record.proofs.ColumnLaws.{read-fills}
-
--- COLUMNS read into room that is long enough: of X and Y,
-pub positions-read :
-    (k : Kind) (t : Table) {xs₀ xs ys₀ ys : List ℕ} {most n m : ℕ} → t.count ≤ most → most ≤ length xs₀ → most ≤ length ys₀
-    → ReadInto xs₀ xs (x_at k t) t.count n → ReadInto ys₀ ys (y_at k t) t.count m → Narrow ys m wide → Positions xs ys k t n
-positions-read k t {n = n} {m = m} small lx ly rx ry w =
-    let hx = read-fills (omega arith) rx in
-    let hy = read-fills (omega arith) ry in
-    let e : n ≡ m = omega (arith, hx.count, hy.count) in
-    record { x = hx; y = rw e hy; narrow = rw e w }
 
 -- counted as another column of the file is,
 pub positions-with :
@@ -43,15 +32,6 @@ pub positions-with :
 positions-with {n = n} {m = m} h p =
     let e : n ≡ m = omega (arith, p.x.count, h.count) in
     rw e at p
-
--- and of Z beside them
-pub nodes-read :
-    (t : Table) {xs ys zs₀ zs : List ℕ} {n m : ℕ} → n ≤ length zs₀ → Positions xs ys Nodo t n → ReadInto zs₀ zs (z_at Nodo t) t.count m
-    → Narrow zs m wide → Nodes xs ys zs t n
-nodes-read t {n = n} {m = m} l p r w =
-    let h = read-fills (omega (arith, p.x.count)) r in
-    let e : n ≡ m = omega (arith, p.x.count, h.count) in
-    record { plane = p; z = rw e h; narrow = rw e w }
 
 -- WHERE A RECORD IS, read in the columns: a record of the file stands in both, and is where they say
 module _ {xs ys : List ℕ} {k : Kind} {t : Table} {n : ℕ} (p : Positions xs ys k t n) {j : ℕ} (l : j < t.count) where

@@ -13,16 +13,14 @@ use borrow.Author.Tests.{eq-eqb, ne_eqb}
 use Rattle.index.specs.Keys.{listed}
 use Rattle.index.specs.Look.{Sought, key_line}
 use Rattle.index.specs.Way.{look_of, Ready}
-use Rattle.index.specs.declared.Found.{Found}
-use Rattle.index.specs.declared.Found.TheVariants.{At, Nothing}
+use Rattle.std.specs.Prelude.{Option, Some, None}
 use Rattle.index.specs.declared.way.Way.{Way}
 use Rattle.index.proofs.LookLaws.{sought-record}
-use Rattle.record.specs.machinery.Columns.{Fills}
 use Rattle.topology.specs.machinery.Lent.{Holds}
 use Rattle.topology.specs.machinery.Tops.{line_of, Tops}
 use Rattle.topology.specs.Rules.{highest_in}
 
-at_same : {a b : ℕ} → At a ≡ At b → a ≡ b
+at_same : {a b : ℕ} → Some a ≡ Some b → a ≡ b
 at_same e = cc
 
 -- THE HIGHEST of a line: one more key is of the line, or of another; none is
@@ -49,18 +47,18 @@ tops_start ready of room zeros = record { ready = ready; of = of; room = room; t
 
 module _ {keys lines order hints tops : List ℕ} {n : ℕ} {way : Way} {j : ℕ} (s : Tops keys lines order hints tops n way j) where
   -- one more is, whose line's vertex is found,
-  module _ {f : Found} (sought : Sought lines n (get_or lines j 0) f) (same : f ≡ look_of lines order hints way.hinted n (get_or lines j 0)) (l : j < n) where
-    pub found_below_lem : {r : ℕ} → f ≡ At r → r < n
+  module _ {f : Option ℕ} (sought : Sought lines n (get_or lines j 0) f) (same : f ≡ look_of lines order hints way.hinted n (get_or lines j 0)) (l : j < n) where
+    pub found_below_lem : {r : ℕ} → f ≡ Some r → r < n
     found_below_lem e = (sought-record lines n (get_or lines j 0) sought e).0
 
-    pub tops-more : {r v : ℕ} → f ≡ At r → v ≡ max (get_or keys j 0) (get_or tops r 0) → Tops keys lines order hints (set tops r v) n way (j + 1)
+    pub tops-more : {r v : ℕ} → f ≡ Some r → v ≡ max (get_or keys j 0) (get_or tops r 0) → Tops keys lines order hints (set tops r v) n way (j + 1)
     tops-more {r} {v} e raised =
         record { ready = s.ready; of = s.of; room = rw length-set s.room; top = λ q lq own. at q lq own (ℕ_discrete q r) }
       where
         here : (r < n) × (get_or lines r 0 ≡ get_or lines j 0)
         here = sought-record lines n (get_or lines j 0) sought e
 
-        finds : look_of lines order hints way.hinted n (get_or lines j 0) ≡ At r
+        finds : look_of lines order hints way.hinted n (get_or lines j 0) ≡ Some r
         finds = sym same ∙ e
 
         line : key_line (get_or keys j 0) ≡ get_or lines r 0
@@ -70,7 +68,7 @@ module _ {keys lines order hints tops : List ℕ} {n : ℕ} {way : Way} {j : ℕ
         old = s.top r here.0 (ap (look_of lines order hints way.hinted n) here.1 ∙ finds)
 
         at :
-            (q : ℕ) → q < n → look_of lines order hints way.hinted n (get_or lines q 0) ≡ At q → Dec (q ≡ r)
+            (q : ℕ) → q < n → look_of lines order hints way.hinted n (get_or lines q 0) ≡ Some q → Dec (q ≡ r)
             → get_or (set tops r v) q 0 ≡ highest_in (listed keys) (get_or lines q 0) (j + 1)
         at q lq own (yes p) =
             rw p
@@ -86,37 +84,21 @@ module _ {keys lines order hints tops : List ℕ} {n : ℕ} {way : Way} {j : ℕ
             (λ h. d (at_same (sym own ∙ ap (look_of lines order hints way.hinted n) (sym h ∙ sym (s.of.each j l)) ∙ finds))))
 
     -- and found it is
-    pub found_some : f ≡ Nothing → ⊥
+    pub found_some : f ≡ None → ⊥
     unfolding Sought
     found_some e = (rw e at sought) j l refl
 
-  -- all are
-  pub tops-end : n ≤ j → j ≤ n → Tops keys lines order hints tops n way n
-  tops-end le u = let e : j ≡ n = omega arith in rw e at s
-
 -- A LINE looked up, f the answer: it has no vertex, or its highest stands there
-module _ {keys lines order hints tops : List ℕ} {n : ℕ} {way : Way} (s : Tops keys lines order hints tops n way n) (line : ℕ) {f : Found}
+module _ {keys lines order hints tops : List ℕ} {n : ℕ} {way : Way} (s : Tops keys lines order hints tops n way n) (line : ℕ) {f : Option ℕ}
     (sought : Sought lines n line f) where
-  pub top-none : f ≡ Nothing → 0 ≡ highest_in (listed keys) line n
+  pub top-none : f ≡ None → 0 ≡ highest_in (listed keys) line n
   unfolding Sought
   top-none e = sym (highest-zero (listed keys) line n (λ k l q. (rw e at sought) k l (s.of.each k l ∙ q)))
 
-  pub top_below : {r : ℕ} → f ≡ At r → r < length tops
+  pub top_below : {r : ℕ} → f ≡ Some r → r < length tops
   top_below e = let h = sought-record lines n line sought e in omega (arith, s.room, h.0)
 
-  pub top-found : {r : ℕ} → f ≡ look_of lines order hints way.hinted n line → f ≡ At r → get_or tops r 0 ≡ highest_in (listed keys) line n
+  pub top-found : {r : ℕ} → f ≡ look_of lines order hints way.hinted n line → f ≡ Some r → get_or tops r 0 ≡ highest_in (listed keys) line n
   top-found {r} same e =
       let h = sought-record lines n line sought e in
       rw h.1 at (s.top r h.0 (ap (look_of lines order hints way.hinted n) h.1 ∙ sym same ∙ e))
-
--- THE HIGHEST KEYS of lines that are named by a column, filled from the array that has it
-pub ends-filled :
-    (keys : List ℕ) (n : ℕ) {named out : List ℕ} {line : ℕ → ℕ} {c t : ℕ} → Fills named line c t → c ≤ length out
-    → Holds out (λ i. highest_in (listed keys) (get_or named i 0) n) t → Fills out (λ i. highest_in (listed keys) (line i) n) c t
-ends-filled keys n f l h =
-    record {
-      count = f.count;
-      small = f.small;
-      long = l;
-      holds = λ i u. h.each i (omega (arith, f.count)) ∙ ap (λ (x : ℕ). highest_in (listed keys) x n) (f.holds i u);
-    }

@@ -6,11 +6,10 @@ use mathlib.Core.Bool.{Bool, true, false, not, ◌&&◌, ◌||◌}
 use mathlib.Core.List.{List}
 use mathlib.Core.Logic.{◌⊎◌, inl, inr, ⊎_elim}
 use mathlib.Core.Option.{none}
-use mathlib.Core.Path.{◌≡◌, refl, sym, ap, subst, ◌∙◌}
+use mathlib.Core.Path.{◌≡◌, refl, sym, ap, ◌∙◌}
 use native.Mathlib.Nat.{min-eq_left, min-eq_right}
 use native.Mathlib.Decide.{dec_lt}
 use native.Mathlib.Omega.{arith}
-use borrow.Author.Count.{below_none, below_more}
 use borrow.Author.Tests.{leb-false, eq-eqb, ne_eqb, eqb-true, eqb-false, not-false, lt-ltb, le-ltb}
 use lib.Dec.{eqb, leb, ltb}
 use lib.ListN.{length, get_or, set, length-set}
@@ -22,24 +21,24 @@ use Rattle.laws.proofs.CountLaws.{count-more, count_same}
 use Rattle.laws.proofs.FindLaws.{true-false, any-more}
 use Rattle.laws.proofs.RowLaws.{and-true}
 use Rattle.index.specs.Keys.{listed, first_duplicate}
-use Rattle.index.specs.Look.{Sought, IsFoundBelow}
+use Rattle.index.specs.Look.{Sought}
 use Rattle.index.specs.Hint.{slot_of, pointed, guess_of}
-use Rattle.index.specs.Way.{upto_of, last_at, keyed, find_of, is_found, Complete, look_of, Ready}
+use Rattle.index.specs.Way.{upto_of, last_at, keyed, find_of, Complete, look_of, Ready}
 use Rattle.index.specs.Marks.{Marked}
-use Rattle.index.specs.declared.Found.{Found}
-use Rattle.index.specs.declared.Found.TheVariants.{At, Nothing}
+use Rattle.std.specs.Prelude.{Option, Some, None, is_some}
 use Rattle.index.specs.declared.way.Way.{Way}
 use Rattle.index.proofs.OrderLaws.{same_or}
 use Rattle.index.proofs.WayLaws.{look-hinted}
 use Rattle.record.specs.machinery.Columns.{Fills}
+use Rattle.topology.specs.machinery.Each.{Each}
 use Rattle.topology.proofs.LentLaws.{one-record, names-lent}
 use Rattle.topology.specs.machinery.Used.{put_at, count_at, free_at, Used, Named, Free, Unheld, Counted}
 
 -- A LOOK-UP that finds a record has its key, whatever the table says
-nothing-at : {r : ℕ} → Nothing ≡ At r → ⊥
+nothing-at : {r : ℕ} → None ≡ Some r → ⊥
 nothing-at e = let z : ◌≡◌ {A = ℕ} 0 1 = cc in omega arith
 
-picked : (t : Bool) {h r : ℕ} → pick t Nothing (At h) ≡ At r → (t ≡ false) × (h ≡ r)
+picked : (t : Bool) {h r : ℕ} → pick t None (Some h) ≡ Some r → (t ≡ false) × (h ≡ r)
 picked true e = absurd (nothing-at e)
 picked false e = (refl, cc)
 
@@ -63,7 +62,7 @@ and-false : (t : Bool) → (t && false) ≡ false
 and-false true = refl
 and-false false = refl
 
-pointed-own : (keys : List ℕ) (n x h : ℕ) {r : ℕ} → pointed keys n x h ≡ At r → get_or keys r 0 ≡ x
+pointed-own : (keys : List ℕ) (n x h : ℕ) {r : ℕ} → pointed keys n x h ≡ Some r → get_or keys r 0 ≡ x
 unfolding pointed
 pointed-own keys n x h {r} e =
     let other : Bool = not (eqb (get_or keys (h - 1) 0) x) in
@@ -71,7 +70,7 @@ pointed-own keys n x h {r} e =
     let q = or-last (eqb h 0 || leb n (h - 1) || leb (length keys) (h - 1)) other p.0 in
     ap (λ (j : ℕ). get_or keys j 0) (sym p.1) ∙ eqb-true (get_or keys (h - 1) 0) x (not-false _ q)
 
-pointed-below : (keys : List ℕ) (n x h : ℕ) {r : ℕ} → pointed keys n x h ≡ At r → r < n
+pointed-below : (keys : List ℕ) (n x h : ℕ) {r : ℕ} → pointed keys n x h ≡ Some r → r < n
 unfolding pointed
 pointed-below keys n x h {r} e =
     let past : Bool = eqb h 0 || leb n (h - 1) in
@@ -79,22 +78,22 @@ pointed-below keys n x h {r} e =
     let q = or-first past _ (or-first (past || leb (length keys) (h - 1)) _ p.0) in
     omega (arith, leb-false n (h - 1) (or-last (eqb h 0) (leb n (h - 1)) q), p.1)
 
-keyed-own : (keys : List ℕ) (x : ℕ) (f : Found) {r : ℕ} → keyed keys x f ≡ At r → get_or keys r 0 ≡ x
-keyed-own keys x Nothing e = absurd (nothing-at e)
-keyed-own keys x (At h) e = go (eqb (get_or keys h 0) x) refl e
+keyed-own : (keys : List ℕ) (x : ℕ) (f : Option ℕ) {r : ℕ} → keyed keys x f ≡ Some r → get_or keys r 0 ≡ x
+keyed-own keys x None e = absurd (nothing-at e)
+keyed-own keys x (Some h) e = go (eqb (get_or keys h 0) x) refl e
   where
-    go : (t : Bool) → eqb (get_or keys h 0) x ≡ t → {r : ℕ} → pick t (At h) Nothing ≡ At r → get_or keys r 0 ≡ x
+    go : (t : Bool) → eqb (get_or keys h 0) x ≡ t → {r : ℕ} → pick t (Some h) None ≡ Some r → get_or keys r 0 ≡ x
     go true q {r} e = let z : h ≡ r = cc in ap (λ (j : ℕ). get_or keys j 0) (sym z) ∙ eqb-true (get_or keys h 0) x q
     go false q e = absurd (nothing-at e)
 
-look-own : (keys order hints : List ℕ) (t : Bool) (n x : ℕ) {r : ℕ} → look_of keys order hints t n x ≡ At r → get_or keys r 0 ≡ x
+look-own : (keys order hints : List ℕ) (t : Bool) (n x : ℕ) {r : ℕ} → look_of keys order hints t n x ≡ Some r → get_or keys r 0 ≡ x
 unfolding look_of guess_of find_of
 look-own keys order hints true n x e = pointed-own keys n x (get_or hints (slot_of keys hints x) 0) e
 look-own keys order hints false n x e = keyed-own keys x (last_at order (upto_of keys order n x)) e
 
 -- AN ID'S OWN RECORD is the one that its look-up finds, where hints find every id and no two are equal
 guess-self :
-    (keys hints : List ℕ) (n i : ℕ) → Complete keys hints n → first_duplicate (listed keys) n ≡ none → i < n → guess_of keys hints n (get_or keys i 0) ≡ At i
+    (keys hints : List ℕ) (n i : ℕ) → Complete keys hints n → first_duplicate (listed keys) n ≡ none → i < n → guess_of keys hints n (get_or keys i 0) ≡ Some i
 unfolding Complete guess_of
 guess-self keys hints n i all d l = go (pointed keys n x h) refl (all i l)
   where
@@ -104,43 +103,24 @@ guess-self keys hints n i all d l = go (pointed keys n x h) refl (all i l)
     h : ℕ
     h = get_or hints (slot_of keys hints (get_or keys i 0)) 0
 
-    go : (f : Found) → pointed keys n x h ≡ f → is_found f ≡ true → f ≡ At i
-    go Nothing e q = absurd (true-false (sym q))
-    go (At r) e q = ap At (one-record (listed keys) n d r i (pointed-below keys n x h e) l (pointed-own keys n x h e))
+    go : (f : Option ℕ) → pointed keys n x h ≡ f → is_some f ≡ true → f ≡ Some i
+    go None e q = absurd (true-false (sym q))
+    go (Some r) e q = ap Some (one-record (listed keys) n d r i (pointed-below keys n x h e) l (pointed-own keys n x h e))
 
 pub look_self :
     {keys order hints : List ℕ} {n : ℕ} {way : Way} (i : ℕ) → Ready keys order hints n way → (way.hinted && way.apart) ≡ true → i < n
-    → At i ≡ look_of keys order hints way.hinted n (get_or keys i 0)
+    → Some i ≡ look_of keys order hints way.hinted n (get_or keys i 0)
 look_self {keys} {order} {hints} {n} {way} i r e l =
     let h = and-true way.hinted way.apart e in
     look-hinted keys order hints n (get_or keys i 0) h.0 (sym (guess-self keys hints n i (r.hinted h.0) (r.apart h.1) l))
 
-pub sought-self : (keys : List ℕ) (n i : ℕ) → i < n → Sought keys n (get_or keys i 0) (At i)
+pub sought-self : (keys : List ℕ) (n i : ℕ) → i < n → Sought keys n (get_or keys i 0) (Some i)
 unfolding Sought
 sought-self keys n i l = (l, refl)
 
--- a record that was found: it is below, 1 is put at it, it is free
-pub below_at : (f : Found) (m : ℕ) {r : ℕ} → IsFoundBelow f m → f ≡ At r → r < m
-below_at f m {r} b e = subst (λ (f : Found). IsFoundBelow f m) e b
-
-pub put-at : (used : List ℕ) {f : Found} {r : ℕ} → f ≡ At r → set used r 1 ≡ put_at used f
-put-at used e = rw e
-
-pub count_at_lem : (counts : List ℕ) {f : Found} {r c : ℕ} → f ≡ At r → c ≡ min 2 (get_or counts r 0 + 1) → set counts r c ≡ count_at counts f
-count_at_lem counts e q = rw (e, q)
-
-pub count_long : (counts : List ℕ) (f : Found) → length (count_at counts f) ≡ length counts
-count_long counts Nothing = refl
-count_long counts (At r) = length-set counts r _
-
-pub free-at : (used : List ℕ) (most : ℕ) {f : Found} {r : ℕ} → f ≡ At r → ltb (get_or used r 0) most ≡ free_at used most f
-free-at used most e = rw e
-
-pub one-first : (c : ℕ) → c < 1 → 1 ≡ min 2 (c + 1)
-one-first c l = let e : c ≡ 0 = omega arith in rw e
-
-pub one_more : (c : ℕ) → 1 ≤ c → 2 ≡ min 2 (c + 1)
-one_more c l = sym (min-eq_left (omega arith))
+pub count_long : (counts : List ℕ) (f : Option ℕ) → length (count_at counts f) ≡ length counts
+count_long counts None = refl
+count_long counts (Some r) = length-set counts r _
 
 -- fewer than one are none, and up to two tell whether they are fewer than two
 none_is : (v : ℕ) → ltb v 1 ≡ eqb v 0
@@ -150,7 +130,7 @@ none_is v = go (eqb v 0) refl
     go true e = lt-ltb v 1 (omega (arith, eqb-true v 0 e))
     go false e = let d = eqb-false v 0 e in le-ltb v 1 (⊎_elim (λ q. absurd (d q)) (λ q. omega arith) (same_or v 0))
 
--- THE LOOP that looks names up: after the first i of them the records that they name are in use. At the start none is,
+-- THE LOOP that looks names up: after the first i of them the records that they name are in use. Some the start none is,
 module _ {ids order hints : List ℕ} {t : Bool} {n : ℕ} (key : ℕ → ℕ) where
   pub used_start : (used : List ℕ) → Used ids order hints t n used used (names key 0)
   unfolding any
@@ -162,11 +142,11 @@ module _ {ids order hints : List ℕ} {t : Bool} {n : ℕ} (key : ℕ → ℕ) w
 
   -- one more name,
   pub used-more :
-      {before used now : List ℕ} {i x : ℕ} (f : Found) → Used ids order hints t n before used (names key i) → n ≤ length before
+      {before used now : List ℕ} {i x : ℕ} (f : Option ℕ) → Used ids order hints t n before used (names key i) → n ≤ length before
       → x ≡ key i → Sought ids n x f → f ≡ look_of ids order hints t n x → now ≡ put_at used f
       → Used ids order hints t n before now (names key (i + 1))
   unfolding Sought
-  used-more {before} {used} {now} {i} {x} Nothing u room k s q e =
+  used-more {before} {used} {now} {i} {x} None u room k s q e =
       record {
         long = ap length e ∙ u.long;
         marked =
@@ -178,32 +158,26 @@ module _ {ids order hints : List ℕ} {t : Bool} {n : ℕ} (key : ℕ → ℕ) w
     where
       other : (y : ℕ) → (key i ≡ y → ⊥) → names key (i + 1) y ≡ names key i y
       other y d = any-more _ i ∙ ap (λ (b : Bool). names key i y || b) (ne_eqb (key i) y d) ∙ or-false (names key i y)
-  used-more {before} {used} {now} {i} {x} (At a) u room k s q e =
+  used-more {before} {used} {now} {i} {x} (Some a) u room k s q e =
       record {
         long = ap length e ∙ length-set used a 1 ∙ u.long;
         marked = λ y r found. ap (λ (l : List ℕ). eqb (get_or l r 0) 0) e ∙ ⊎_elim (here y r found) (there y r found) (same_or (key i) y);
       }
     where
-      here : (y r : ℕ) → look_of ids order hints t n y ≡ At r → key i ≡ y → eqb (get_or (set used a 1) r 0) 0 ≡ (eqb (get_or before r 0) 0 && not (names key (i + 1) y))
+      here : (y r : ℕ) → look_of ids order hints t n y ≡ Some r → key i ≡ y → eqb (get_or (set used a 1) r 0) 0 ≡ (eqb (get_or before r 0) 0 && not (names key (i + 1) y))
       here y r found z =
-          let w : At a ≡ At r = q ∙ ap (look_of ids order hints t n) (k ∙ z) ∙ found in
+          let w : Some a ≡ Some r = q ∙ ap (look_of ids order hints t n) (k ∙ z) ∙ found in
           let v : a ≡ r = cc in
           let l : a < n = s.0 in
           ap (λ (j : ℕ). eqb (get_or (set used a 1) j 0) 0) (sym v)
           ∙ ap (λ (b : ℕ). eqb b 0) (get_or-set_same used a 1 0 (omega (arith, u.long)))
           ∙ sym (ap (λ (b : Bool). eqb (get_or before r 0) 0 && not b) (any-more _ i ∙ ap (λ (b : Bool). names key i y || b) (eq-eqb (key i) y z) ∙ or-true (names key i y)) ∙ and-false (eqb (get_or before r 0) 0))
 
-      there : (y r : ℕ) → look_of ids order hints t n y ≡ At r → (key i ≡ y → ⊥) → eqb (get_or (set used a 1) r 0) 0 ≡ (eqb (get_or before r 0) 0 && not (names key (i + 1) y))
+      there : (y r : ℕ) → look_of ids order hints t n y ≡ Some r → (key i ≡ y → ⊥) → eqb (get_or (set used a 1) r 0) 0 ≡ (eqb (get_or before r 0) 0 && not (names key (i + 1) y))
       there y r found d =
           ap (λ (b : ℕ). eqb b 0) (get_or-set_other used a r 1 0 (λ (z : r ≡ a). d (sym k ∙ sym s.1 ∙ ap (λ (j : ℕ). get_or ids j 0) (sym z) ∙ look-own ids order hints t n y found)))
           ∙ u.marked y r found
           ∙ ap (λ (b : Bool). eqb (get_or before r 0) 0 && not b) (sym (any-more _ i ∙ ap (λ (b : Bool). names key i y || b) (ne_eqb (key i) y d) ∙ or-false (names key i y)))
-
-  -- and all of them
-  pub used-end :
-      {before used : List ℕ} {i m : ℕ} (c : ℕ) → i ≤ m → m ≤ i → m ≡ c → Used ids order hints t n before used (names key i)
-      → Used ids order hints t n before used (names key c)
-  used-end {i = i} c l le e u = let q : i ≡ c = omega arith in rw q at u
 
 -- names in an array are those of the column that fills it
 pub used-filled :
@@ -229,32 +203,18 @@ used-then {a = a} {p = p} {q = q} u w =
           w.marked x r found ∙ ap (λ (z : Bool). z && not (q x)) (u.marked x r found) ∙ neither (eqb (get_or a r 0) 0) (p x) (q x);
     }
 
--- THE LOOP that marks the records which are not in use
-free : {ids order hints : List ℕ} {t : Bool} {n : ℕ} {used : List ℕ} {most i x : ℕ} (f : Found) → i < n → Sought ids n (get_or ids i 0) f
+-- THE MARKS of the records which are not in use
+pub free : {ids order hints : List ℕ} {t : Bool} {n : ℕ} {used : List ℕ} {most i x : ℕ} (f : Option ℕ) → i < n → Sought ids n (get_or ids i 0) f
     → f ≡ look_of ids order hints t n (get_or ids i 0) → x ≡ bit (free_at used most f) → Free ids order hints t n used most (get_or ids i 0) x
 unfolding Sought
-free {i = i} Nothing l s q e = absurd (s i l refl)
-free (At r) l s q e = record { at = r; within = s.0; found = sym q; says = e }
+free {i = i} None l s q e = absurd (s i l refl)
+free (Some r) l s q e = record { at = r; within = s.0; found = sym q; says = e }
 
-module _ {ids order hints : List ℕ} {t : Bool} {n : ℕ} {used : List ℕ} {most : ℕ} where
-  pub unheld-start : (marks : List ℕ) → Unheld ids order hints t n used most marks marks 0
-  unheld-start marks = record { long = refl; each = below_none _ }
-
-  pub unheld-more :
-      {before marks : List ℕ} {i x : ℕ} (f : Found) → i < n → n ≤ length before → Unheld ids order hints t n used most before marks i
-      → Sought ids n (get_or ids i 0) f → f ≡ look_of ids order hints t n (get_or ids i 0) → x ≡ bit (free_at used most f)
-      → Unheld ids order hints t n used most before (set marks i x) (i + 1)
-  unheld-more {before} {marks} {i} {x} f l room u s q e =
-      record {
-        long = length-set marks i x ∙ u.long;
-        each =
-            below_more (λ (j : ℕ). Free ids order hints t n used most (get_or ids j 0) (get_or (set marks i x) j 0)) i
-            (λ j lj. rw (get_or-set_other marks i j x 0 (λ (z : j ≡ i). omega arith)) (u.each j lj))
-            (rw (get_or-set_same marks i x 0 (omega (arith, u.long))) (free f l s q e));
-      }
-
-  pub unheld-end : {before marks : List ℕ} {i : ℕ} → n ≤ i → Unheld ids order hints t n used most before marks i → Unheld ids order hints t n used most before marks n
-  unheld-end le u = record { long = u.long; each = λ j l. u.each j (omega arith) }
+pub unheld-each :
+    {ids order hints used before after : List ℕ} {t : Bool} {n most : ℕ} {made : ℕ → ℕ → Type 0}
+    → ((i x : ℕ) → i < n → made i x → Free ids order hints t n used most (get_or ids i 0) x)
+    → Each made before after n → Unheld ids order hints t n used most before after n
+unheld-each same s = record { long = s.long; each = λ i l. same i _ l (s.each i l 0) }
 
 -- THE RECORDS that are in no use, where at the start none was
 pub idle-marks :
@@ -321,14 +281,14 @@ two-more h = go (dec_lt h 2)
 
 -- and after one more name
 pub counted-more :
-    {ids order hints : List ℕ} {t : Bool} {n : ℕ} {counts now : List ℕ} {key : ℕ → ℕ} {i x : ℕ} (f : Found) → Counted ids order hints t n counts key i
+    {ids order hints : List ℕ} {t : Bool} {n : ℕ} {counts now : List ℕ} {key : ℕ → ℕ} {i x : ℕ} (f : Option ℕ) → Counted ids order hints t n counts key i
     → x ≡ key i → Sought ids n x f → f ≡ look_of ids order hints t n x → now ≡ count_at counts f → Counted ids order hints t n now key (i + 1)
 unfolding Sought
 counted-more {ids} {order} {hints} {t} {n} {counts} {now} {key} {i} {x} f c k s q e = record { room = long f e; each = λ y r l found. at f s q e y r l found (same_or (key i) y) }
   where
-    long : (f : Found) → now ≡ count_at counts f → n ≤ length now
-    long Nothing e = rw e c.room
-    long (At a) e = rw (e, length-set counts a (min 2 (get_or counts a 0 + 1))) c.room
+    long : (f : Option ℕ) → now ≡ count_at counts f → n ≤ length now
+    long None e = rw e c.room
+    long (Some a) e = rw (e, length-set counts a (min 2 (get_or counts a 0 + 1))) c.room
 
     kept : (y : ℕ) → (key i ≡ y → ⊥) → how_many (λ j. eqb (key j) y) i ≡ how_many (λ j. eqb (key j) y) (i + 1)
     kept y d = let z = ne_eqb (key i) y d in sym (count-more _ i ∙ ap (λ (b : Bool). how_many (λ j. eqb (key j) y) i + bit b) z ∙ none_more _)
@@ -337,12 +297,12 @@ counted-more {ids} {order} {hints} {t} {n} {counts} {now} {key} {i} {x} f c k s 
     raised y z = sym (count-more _ i ∙ ap (λ (b : Bool). how_many (λ j. eqb (key j) y) i + bit b) (eq-eqb (key i) y z))
 
     at :
-        (f : Found) → Sought ids n x f → f ≡ look_of ids order hints t n x → now ≡ count_at counts f → (y r : ℕ) → r < n → look_of ids order hints t n y ≡ At r
+        (f : Option ℕ) → Sought ids n x f → f ≡ look_of ids order hints t n x → now ≡ count_at counts f → (y r : ℕ) → r < n → look_of ids order hints t n y ≡ Some r
         → ((key i ≡ y) ⊎ (key i ≡ y → ⊥)) → get_or now r 0 ≡ min 2 (how_many (λ j. eqb (key j) y) (i + 1))
-    at Nothing s q e y r l found (inl z) = absurd (nothing-at (q ∙ ap (look_of ids order hints t n) (k ∙ z) ∙ found))
-    at Nothing s q e y r l found (inr d) = ap (λ (u : List ℕ). get_or u r 0) e ∙ c.each y r l found ∙ ap (min 2) (kept y d)
-    at (At a) s q e y r l found (inl z) =
-        let w : At a ≡ At r = q ∙ ap (look_of ids order hints t n) (k ∙ z) ∙ found in
+    at None s q e y r l found (inl z) = absurd (nothing-at (q ∙ ap (look_of ids order hints t n) (k ∙ z) ∙ found))
+    at None s q e y r l found (inr d) = ap (λ (u : List ℕ). get_or u r 0) e ∙ c.each y r l found ∙ ap (min 2) (kept y d)
+    at (Some a) s q e y r l found (inl z) =
+        let w : Some a ≡ Some r = q ∙ ap (look_of ids order hints t n) (k ∙ z) ∙ found in
         let v : a ≡ r = cc in
         ap (λ (u : List ℕ). get_or u r 0) e
         ∙ ap (λ (j : ℕ). get_or (set counts j (min 2 (get_or counts j 0 + 1))) r 0) v
@@ -350,16 +310,11 @@ counted-more {ids} {order} {hints} {t} {n} {counts} {now} {key} {i} {x} f c k s 
         ∙ ap (λ (m : ℕ). min 2 (m + 1)) (c.each y r l found)
         ∙ two-more _
         ∙ ap (min 2) (raised y z)
-    at (At a) s q e y r l found (inr d) =
+    at (Some a) s q e y r l found (inr d) =
         ap (λ (u : List ℕ). get_or u r 0) e
         ∙ get_or-set_other counts a r _ 0 (λ (z : r ≡ a). d (sym k ∙ sym s.1 ∙ ap (λ (j : ℕ). get_or ids j 0) (sym z) ∙ look-own ids order hints t n y found))
         ∙ c.each y r l found
         ∙ ap (min 2) (kept y d)
-
-pub counted-end :
-    {ids order hints : List ℕ} {t : Bool} {n : ℕ} {counts : List ℕ} {key : ℕ → ℕ} {i m : ℕ} → i ≤ m → m ≤ i → Counted ids order hints t n counts key i
-    → Counted ids order hints t n counts key m
-counted-end {i = i} {m} l le u = let q : i ≡ m = omega arith in rw q at u
 
 -- names in an array are those of the column that fills it
 pub counted-filled :

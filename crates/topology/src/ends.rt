@@ -4,20 +4,15 @@ ghost use Rattle.laws.specs.Find.{names};
 ghost use Rattle.index.specs.Keys.{listed};
 ghost use Rattle.index.specs.Look.{Sought};
 ghost use Rattle.index.specs.Marks.{Marked};
-ghost use Rattle.index.specs.Way.{Ready};
 ghost use Rattle.record.specs.Says.{table_of};
 ghost use Rattle.record.specs.Names.{name_at, key_of};
 ghost use Rattle.topology.specs.machinery.Ends.{end_key, is_gone, apart_at, astray_at};
-ghost use Rattle.record.specs.machinery.Columns.{Fills};
-ghost use Rattle.topology.specs.machinery.Places.{Positions};
 ghost use Rattle.topology.specs.machinery.Used.{Used, Counted};
 ghost use Rattle.topology.specs.Rules.{meets, elsewhere};
 
-use crate::places::{node_at, scan_node, x_at, y_at};
+use crate::each::fill_each;
+use crate::places::{Nodes, Vertices, node_at, scan_node, x_at, y_at};
 use crate::used::{count_in, put};
-use index::Found;
-use index::marks::as_mark;
-use index::way::{Way, look};
 use record::columns::rows;
 use record::kind::Kind;
 use record::names::record_key;
@@ -26,63 +21,40 @@ use record::names::record_key;
 fn scan_meets<'a>(vertice: &'a [u8], nodo: &'a [u8], key: u64, wanted: u64) -> bool
     ensures { result ≡ meets (table_of vertice.now Kind.Vertice) (table_of nodo.now Kind.Nodo) key wanted }
 {
-    let n = rows(vertice, Kind::Vertice);
-    let mut j = 0;
-    while j < n {
-        if record_key(vertice, Kind::Vertice, j) == key {
-            if scan_node(
+    (0..rows(vertice, Kind::Vertice)).any(|j| {
+        record_key(vertice, Kind::Vertice, j) == key
+            && scan_node(
                 nodo,
                 wanted,
                 x_at(vertice, Kind::Vertice, j),
                 y_at(vertice, Kind::Vertice, j),
-            ) {
-                return true;
-            }
-        }
-        j += 1;
-    }
-    false
+            )
+    })
 }
 
 // Whether a vertex has the key and none that has it is where a node with the name is. The vertex that is found decides where it meets
 // the node, and where keys are known to differ, since then no other has its key.
-fn is_elsewhere<'a, 'b>(
-    vertice: &'a [u8],
-    keys: &'b [u64],
-    order: &'b [usize],
-    vertices: &'b [u16],
-    way: Way,
-    n: usize,
-    vx: &'b [u64],
-    vy: &'b [u64],
-    nodo: &'a [u8],
-    ids: &'b [u64],
-    ranks: &'b [usize],
-    nodes: &'b [u16],
-    by: Way,
-    m: usize,
-    nx: &'b [u64],
-    ny: &'b [u64],
+fn is_elsewhere(
+    vertices: &Vertices<'_, '_>,
+    nodes: &Nodes<'_, '_>,
     key: u64,
     wanted: u64,
-    node: Found,
+    node: Option<usize>,
 ) -> bool
-    requires { Ready keys.now order.now vertices.now n way × Fills keys.now (key_of Kind.Vertice (table_of vertice.now Kind.Vertice)) (table_of vertice.now Kind.Vertice).count n × Ready ids.now ranks.now nodes.now m by × Fills ids.now (λ j. name_at Kind.Nodo (table_of nodo.now Kind.Nodo) j 1) (table_of nodo.now Kind.Nodo).count m × Positions vx.now vy.now Kind.Vertice (table_of vertice.now Kind.Vertice) n × Positions nx.now ny.now Kind.Nodo (table_of nodo.now Kind.Nodo) m × Sought ids.now m wanted node }
-    ensures { result ≡ elsewhere (table_of vertice.now Kind.Vertice) (table_of nodo.now Kind.Nodo) key wanted }
+    requires { Sought nodes.now.ids.keys.now nodes.now.ids.n wanted node }
+    ensures { result ≡ elsewhere (table_of vertices.now.file.now Kind.Vertice) (table_of nodes.now.file.now Kind.Nodo) key wanted }
 {
-    let found = look(keys, order, vertices, way, n, key);
+    let found = vertices.keys.look(key);
     match found {
-        Found::Nothing => false,
-        Found::At(j) => {
-            if node_at(
-                nodo, ids, ranks, nodes, by, m, nx, ny, wanted, node, vx[j], vy[j],
-            ) {
+        None => false,
+        Some(j) => {
+            if node_at(nodes, wanted, node, vertices.xs[j], vertices.ys[j]) {
                 return false;
             }
-            if way.apart {
+            if vertices.keys.way.apart {
                 return true;
             }
-            !scan_meets(vertice, nodo, key, wanted)
+            !scan_meets(vertices.file, nodes.file, key, wanted)
         }
     }
 }
@@ -117,97 +89,44 @@ impl End {
 }
 
 // Whether an end of a line with the highest key lies elsewhere than the node with the name, with the vertices and the nodes in hand.
-fn is_apart<'a, 'b>(
+fn is_apart(
     end: End,
-    vertice: &'a [u8],
-    keys: &'b [u64],
-    order: &'b [usize],
-    vertices: &'b [u16],
-    way: Way,
-    n: usize,
-    vx: &'b [u64],
-    vy: &'b [u64],
-    nodo: &'a [u8],
-    ids: &'b [u64],
-    ranks: &'b [usize],
-    nodes: &'b [u16],
-    by: Way,
-    m: usize,
-    nx: &'b [u64],
-    ny: &'b [u64],
+    vertices: &Vertices<'_, '_>,
+    nodes: &Nodes<'_, '_>,
     top: u64,
     wanted: u64,
-    node: Found,
+    node: Option<usize>,
 ) -> bool
-    requires { Ready keys.now order.now vertices.now n way × Fills keys.now (key_of Kind.Vertice (table_of vertice.now Kind.Vertice)) (table_of vertice.now Kind.Vertice).count n × Ready ids.now ranks.now nodes.now m by × Fills ids.now (λ j. name_at Kind.Nodo (table_of nodo.now Kind.Nodo) j 1) (table_of nodo.now Kind.Nodo).count m × Positions vx.now vy.now Kind.Vertice (table_of vertice.now Kind.Vertice) n × Positions nx.now ny.now Kind.Nodo (table_of nodo.now Kind.Nodo) m × Sought ids.now m wanted node }
-    ensures { result ≡ apart_at end (table_of vertice.now Kind.Vertice) (table_of nodo.now Kind.Nodo) top wanted }
+    requires { Sought nodes.now.ids.keys.now nodes.now.ids.n wanted node }
+    ensures { result ≡ apart_at end (table_of vertices.now.file.now Kind.Vertice) (table_of nodes.now.file.now Kind.Nodo) top wanted }
 {
     if end.is_gone(top) {
         return false;
     }
-    is_elsewhere(
-        vertice,
-        keys,
-        order,
-        vertices,
-        way,
-        n,
-        vx,
-        vy,
-        nodo,
-        ids,
-        ranks,
-        nodes,
-        by,
-        m,
-        nx,
-        ny,
-        end.key(top),
-        wanted,
-        node,
-    )
+    is_elsewhere(vertices, nodes, end.key(top), wanted, node)
 }
 
 // Marks, of t tramos, those whose end lies elsewhere than its node, by the columns of the highest keys of their lines and of the nodes' names.
 // Each node is looked up once: what it finds is in use.
-pub fn mark_apart<'a, 'b>(
+pub fn mark_apart(
     end: End,
-    ends: &'b [u64],
-    wanted: &'b [u64],
+    ends: &[u64],
+    wanted: &[u64],
     t: usize,
-    vertice: &'a [u8],
-    keys: &'b [u64],
-    order: &'b [usize],
-    vertices: &'b [u16],
-    way: Way,
-    n: usize,
-    vx: &'b [u64],
-    vy: &'b [u64],
-    nodo: &'a [u8],
-    ids: &'b [u64],
-    ranks: &'b [usize],
-    nodes: &'b [u16],
-    by: Way,
-    m: usize,
-    nx: &'b [u64],
-    ny: &'b [u64],
+    vertices: &Vertices<'_, '_>,
+    nodes: &Nodes<'_, '_>,
     used: &mut [u8],
     marks: &mut [u8],
 )
-    requires { Ready keys.now order.now vertices.now n way × Fills keys.now (key_of Kind.Vertice (table_of vertice.now Kind.Vertice)) (table_of vertice.now Kind.Vertice).count n × Ready ids.now ranks.now nodes.now m by × Fills ids.now (λ j. name_at Kind.Nodo (table_of nodo.now Kind.Nodo) j 1) (table_of nodo.now Kind.Nodo).count m × Positions vx.now vy.now Kind.Vertice (table_of vertice.now Kind.Vertice) n × Positions nx.now ny.now Kind.Nodo (table_of nodo.now Kind.Nodo) m × (t ≤ length ends.now) × (t ≤ length wanted.now) × (t ≤ length marks.old) × (m ≤ length used.old) }
-    ensures marked { Marked marks.old marks.new (λ i. apart_at end (table_of vertice.now Kind.Vertice) (table_of nodo.now Kind.Nodo) (get_or ends.now i 0) (get_or wanted.now i 0)) t }
-    ensures held { Used ids.now ranks.now nodes.now by.hinted m used.old used.new (names (listed wanted.now) t) }
+    requires { (t ≤ length ends.now) × (t ≤ length wanted.now) × (t ≤ length marks.old) × (nodes.now.ids.n ≤ length used.old) }
+    ensures marked { Marked marks.old marks.new (λ i. apart_at end (table_of vertices.now.file.now Kind.Vertice) (table_of nodes.now.file.now Kind.Nodo) (get_or ends.now i 0) (get_or wanted.now i 0)) t }
+    ensures held { Used nodes.now.ids.keys.now nodes.now.ids.order.now nodes.now.ids.hints.now nodes.now.ids.way.hinted nodes.now.ids.n used.old used.new (names (listed wanted.now) t) }
 {
-    let mut i = 0;
-    while i < t {
+    for i in 0..t {
         let x = wanted[i];
-        let node = look(ids, ranks, nodes, by, m, x);
+        let node = nodes.ids.look(x);
         put(node, used);
-        marks[i] = as_mark(is_apart(
-            end, vertice, keys, order, vertices, way, n, vx, vy, nodo, ids, ranks, nodes, by, m,
-            nx, ny, ends[i], x, node,
-        ));
-        i += 1;
+        marks[i] = u8::from(is_apart(end, vertices, nodes, ends[i], x, node));
     }
 }
 
@@ -216,67 +135,39 @@ pub fn mark_endless(ends: &[u64], t: usize, marks: &mut [u8])
     requires { (t ≤ length ends.now) × (t ≤ length marks.old) }
     ensures { Marked marks.old marks.new (λ i. eqb (get_or ends.now i 0) 0) t }
 {
-    let mut i = 0;
-    while i < t {
-        marks[i] = as_mark(ends[i] == 0);
-        i += 1;
-    }
+    fill_each(t, marks, |i| u8::from(ends[i] == 0));
 }
 
 // 55, of a point object by what it names and where it lies: it names a node and lies elsewhere.
-fn is_astray<'a, 'b>(
-    nodo: &'a [u8],
-    ids: &'b [u64],
-    ranks: &'b [usize],
-    nodes: &'b [u16],
-    by: Way,
-    m: usize,
-    nx: &'b [u64],
-    ny: &'b [u64],
-    wanted: u64,
-    node: Found,
-    x: u64,
-    y: u64,
-) -> bool
-    requires { Ready ids.now ranks.now nodes.now m by × Fills ids.now (λ j. name_at Kind.Nodo (table_of nodo.now Kind.Nodo) j 1) (table_of nodo.now Kind.Nodo).count m × Positions nx.now ny.now Kind.Nodo (table_of nodo.now Kind.Nodo) m × Sought ids.now m wanted node }
-    ensures { result ≡ astray_at (table_of nodo.now Kind.Nodo) wanted x y }
+fn is_astray(nodes: &Nodes<'_, '_>, wanted: u64, node: Option<usize>, x: u64, y: u64) -> bool
+    requires { Sought nodes.now.ids.keys.now nodes.now.ids.n wanted node }
+    ensures { result ≡ astray_at (table_of nodes.now.file.now Kind.Nodo) wanted x y }
 {
     if wanted == 0 {
         return false;
     }
-    !node_at(nodo, ids, ranks, nodes, by, m, nx, ny, wanted, node, x, y)
+    !node_at(nodes, wanted, node, x, y)
 }
 
 // Marks, of n point objects, those that lie elsewhere than their node, by the columns of what they name and of X and Y. How often a node is
 // named is counted.
-pub fn mark_astray<'a, 'b>(
-    wanted: &'b [u64],
-    xs: &'b [u64],
-    ys: &'b [u64],
+pub fn mark_astray(
+    wanted: &[u64],
+    xs: &[u64],
+    ys: &[u64],
     n: usize,
-    nodo: &'a [u8],
-    ids: &'b [u64],
-    ranks: &'b [usize],
-    nodes: &'b [u16],
-    by: Way,
-    m: usize,
-    nx: &'b [u64],
-    ny: &'b [u64],
+    nodes: &Nodes<'_, '_>,
     counts: &mut [u8],
     marks: &mut [u8],
 )
-    requires { Ready ids.now ranks.now nodes.now m by × Fills ids.now (λ j. name_at Kind.Nodo (table_of nodo.now Kind.Nodo) j 1) (table_of nodo.now Kind.Nodo).count m × Positions nx.now ny.now Kind.Nodo (table_of nodo.now Kind.Nodo) m × (n ≤ length wanted.now) × (n ≤ length xs.now) × (n ≤ length ys.now) × (n ≤ length marks.old) × Counted ids.now ranks.now nodes.now by.hinted m counts.old (listed wanted.now) 0 }
-    ensures marked { Marked marks.old marks.new (λ i. astray_at (table_of nodo.now Kind.Nodo) (get_or wanted.now i 0) (get_or xs.now i 0) (get_or ys.now i 0)) n }
-    ensures counted { Counted ids.now ranks.now nodes.now by.hinted m counts.new (listed wanted.now) n }
+    requires { (n ≤ length wanted.now) × (n ≤ length xs.now) × (n ≤ length ys.now) × (n ≤ length marks.old) × Counted nodes.now.ids.keys.now nodes.now.ids.order.now nodes.now.ids.hints.now nodes.now.ids.way.hinted nodes.now.ids.n counts.old (listed wanted.now) 0 }
+    ensures marked { Marked marks.old marks.new (λ i. astray_at (table_of nodes.now.file.now Kind.Nodo) (get_or wanted.now i 0) (get_or xs.now i 0) (get_or ys.now i 0)) n }
+    ensures counted { Counted nodes.now.ids.keys.now nodes.now.ids.order.now nodes.now.ids.hints.now nodes.now.ids.way.hinted nodes.now.ids.n counts.new (listed wanted.now) n }
 {
-    let mut i = 0;
-    while i < n {
+    for i in 0..n {
         let x = wanted[i];
-        let node = look(ids, ranks, nodes, by, m, x);
+        let node = nodes.ids.look(x);
         count_in(node, counts);
-        marks[i] = as_mark(is_astray(
-            nodo, ids, ranks, nodes, by, m, nx, ny, x, node, xs[i], ys[i],
-        ));
-        i += 1;
+        marks[i] = u8::from(is_astray(nodes, x, node, xs[i], ys[i]));
     }
 }

@@ -3,7 +3,6 @@ ghost use Rattle.std.specs.Prelude.{◌≡◌, ◌≤◌, length};
 ghost use Rattle.laws.specs.Find.{first_index};
 ghost use Rattle.index.specs.Keys.{found_of};
 ghost use Rattle.index.specs.Marks.{Marked};
-ghost use Rattle.index.specs.Way.{Ready};
 ghost use Rattle.record.specs.machinery.Columns.{Fills};
 ghost use Rattle.record.specs.Says.{table_of};
 ghost use Rattle.record.specs.Names.{name_at};
@@ -12,9 +11,8 @@ ghost use Rattle.topology.specs.machinery.Places.{spot_of};
 
 use crate::places::{x_at, y_at, z_at};
 use crate::used::{mark_unheld, mark_used};
-use index::Found;
 use index::marks::clear;
-use index::way::Way;
+use index::way::Lookup;
 use record::kind::Kind;
 
 // Whether node j has the X, Y and Z of node i.
@@ -27,17 +25,10 @@ fn same_place(nodo: &[u8], i: usize, j: usize) -> bool
 }
 
 // The first node before node i at its place, by scanning.
-pub fn place_before(nodo: &[u8], i: usize) -> Found
+pub fn place_before(nodo: &[u8], i: usize) -> Option<usize>
     ensures { result ≡ found_of (first_index (same_place (table_of nodo.now Kind.Nodo) i) i) }
 {
-    let mut j = 0;
-    while j < i {
-        if same_place(nodo, i, j) {
-            return Found::At(j);
-        }
-        j += 1;
-    }
-    Found::Nothing
+    (0..i).find(|&j| same_place(nodo, i, j))
 }
 
 // X, Y and Z as one number: equal places have equal numbers.
@@ -48,22 +39,18 @@ pub fn spot(x: u64, y: u64, z: u64) -> u64
 }
 
 // 57: marks the linear objects that no tramo names, with their ids in hand.
-pub fn mark_idle_objects<'a, 'b>(
-    tramo: &'a [u8],
-    ob_lin: &'a [u8],
-    ids: &'b [u64],
-    order: &'b [usize],
-    hints: &'b [u16],
-    way: Way,
-    n: usize,
+pub fn mark_idle_objects(
+    tramo: &[u8],
+    ob_lin: &[u8],
+    ids: &Lookup<'_>,
     refs: &mut [u64],
     used: &mut [u8],
     marks: &mut [u8],
 )
-    requires { Ready ids.now order.now hints.now n way × Fills ids.now (λ j. name_at Kind.ObLin (table_of ob_lin.now Kind.ObLin) j 1) (table_of ob_lin.now Kind.ObLin).count n × (n ≤ length used.old) × (n ≤ length marks.old) × ((table_of tramo.now Kind.Tramo).count ≤ length refs.old) }
+    requires { Fills ids.now.keys.now (λ j. name_at Kind.ObLin (table_of ob_lin.now Kind.ObLin) j 1) (table_of ob_lin.now Kind.ObLin).count ids.now.n × (ids.now.n ≤ length used.old) × (ids.now.n ≤ length marks.old) × ((table_of tramo.now Kind.Tramo).count ≤ length refs.old) }
     ensures { Marked marks.old marks.new (object_idle (table_of ob_lin.now Kind.ObLin) (table_of tramo.now Kind.Tramo)) (table_of ob_lin.now Kind.ObLin).count }
 {
-    clear(used, n);
-    mark_used(tramo, Kind::Tramo, 2, ids, order, hints, way, n, refs, used);
-    mark_unheld(ids, order, hints, way, n, used, 1, marks);
+    clear(used, ids.n);
+    mark_used(tramo, Kind::Tramo, 2, ids, refs, used);
+    mark_unheld(ids, used, 1, marks);
 }

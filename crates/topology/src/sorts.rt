@@ -6,7 +6,6 @@ ghost use Rattle.laws.specs.Row.{Narrow};
 ghost use Rattle.index.specs.Keys.{room};
 ghost use Rattle.index.specs.Marks.{Marked, is_marked};
 ghost use Rattle.index.specs.Pairs.{wide};
-ghost use Rattle.index.specs.Way.{Ready};
 ghost use Rattle.record.specs.machinery.Columns.{Fills};
 ghost use Rattle.record.specs.Table.{limit};
 ghost use Rattle.record.specs.Says.{table_of, letter_in};
@@ -17,11 +16,13 @@ ghost use Rattle.topology.specs.machinery.Places.{Positions};
 ghost use Rattle.topology.specs.machinery.Spotted.{any_sorted};
 ghost use Rattle.topology.specs.machinery.Used.{Named, Counted};
 
+use crate::each::fill_each;
+use crate::places::Nodes;
 use crate::spots::{fill_positions, pair_up};
 use crate::spotted::mark_off;
 use crate::used::mark_unheld;
-use index::marks::{as_mark, clear};
-use index::way::{Way, prepare};
+use index::marks::clear;
+use index::way::Lookup;
 use record::columns::letter;
 use record::kind::{Kind, LIMIT};
 
@@ -42,14 +43,7 @@ fn asks_places<'a, 'b>(nodo: &'a [u8], loose: &'b [u8], few: &'b [u8], n: usize)
     requires { (n ≤ length loose.now) × (n ≤ length few.now) }
     ensures { result ≡ any (asks_place loose.now few.now (table_of nodo.now Kind.Nodo)) n }
 {
-    let mut i = 0;
-    while i < n {
-        if (letter(nodo, Kind::Nodo, i, 2) != 0) | ((loose[i] == 1) & (few[i] == 1)) {
-            return true;
-        }
-        i += 1;
-    }
-    false
+    (0..n).any(|i| (letter(nodo, Kind::Nodo, i, 2) != 0) | ((loose[i] == 1) & (few[i] == 1)))
 }
 
 // Marks the nodes at whose place no line's first or last vertex lies, and those at whose place no other vertex does, with X and Y of both and
@@ -76,16 +70,10 @@ fn mark_sorts<'a>(
     ensures marked { Marked off_tips.old off_tips.new (λ i. not (any_sorted tips.now vx.now vy.now 1 v (get_or nx.now i 0) (get_or ny.now i 0))) n }
     ensures others { Marked off_others.old off_others.new (λ i. not (any_sorted tips.now vx.now vy.now 0 v (get_or nx.now i 0) (get_or ny.now i 0))) n }
 {
-    let way = pair_up(nx, ny, n, hints, order, pairs);
-    let pair_way = prepare(pairs, n, pair_hints, pair_order);
-    mark_off(
-        1, tips, vx, vy, v, nx, order, hints, way, ny, pairs, pair_order, pair_hints, pair_way, n,
-        refs, used, off_tips,
-    );
-    mark_off(
-        0, tips, vx, vy, v, nx, order, hints, way, ny, pairs, pair_order, pair_hints, pair_way, n,
-        refs, used, off_others,
-    );
+    let places = pair_up(nx, ny, n, hints, order, pairs);
+    let by = Lookup::prepare(pairs, n, pair_hints, pair_order);
+    mark_off(1, tips, vx, vy, v, &places, ny, &by, refs, used, off_tips);
+    mark_off(0, tips, vx, vy, v, &places, ny, &by, refs, used, off_others);
 }
 
 // 56: marks the nodes that have all four marks: they start and end no tramo, no line's tip and no other vertex lies at their place, and fewer than
@@ -101,13 +89,9 @@ fn mark_idle<'a>(
     requires { (n ≤ length loose.now) × (n ≤ length off_tips.now) × (n ≤ length off_others.now) × (n ≤ length few.now) × (n ≤ length marks.old) }
     ensures { Marked marks.old marks.new (λ i. is_marked loose.now i && is_marked off_tips.now i && is_marked off_others.now i && is_marked few.now i) n }
 {
-    let mut i = 0;
-    while i < n {
-        marks[i] = as_mark(
-            (loose[i] == 1) & (off_tips[i] == 1) & (off_others[i] == 1) & (few[i] == 1),
-        );
-        i += 1;
-    }
+    fill_each(n, marks, |i| {
+        u8::from((loose[i] == 1) & (off_tips[i] == 1) & (off_others[i] == 1) & (few[i] == 1))
+    });
 }
 
 // 58: marks the nodes whose code disagrees with what they are, by the marks of what they are not.
@@ -122,26 +106,21 @@ fn mark_odd<'a, 'b>(
     requires { (n ≤ length loose.now) × (n ≤ length off_tips.now) × (n ≤ length off_others.now) × (n ≤ length marks.old) }
     ensures { Marked marks.old marks.new (λ i. not (agrees (letter_in ((table_of nodo.now Kind.Nodo).says i 2)) (not (is_marked loose.now i && is_marked off_tips.now i)) (not (is_marked off_others.now i)))) n }
 {
-    let mut i = 0;
-    while i < n {
+    fill_each(n, marks, |i| {
         let end = !((loose[i] == 1) & (off_tips[i] == 1));
         let middle = off_others[i] != 1;
-        marks[i] = as_mark(!does_agree(letter(nodo, Kind::Nodo, i, 2), end, middle));
-        i += 1;
-    }
+        u8::from(!does_agree(letter(nodo, Kind::Nodo, i, 2), end, middle))
+    });
 }
 
 // 56 and 58 by the marks of the nodes that start and end no tramo and of those that fewer than two point objects name, with X and Y of the nodes
 // and which vertices are tips in hand and room lent. Vertices are read only where a node's place matters.
-fn mark_by_place<'a, 'b>(
-    vertice: &'a [u8],
-    nodo: &'a [u8],
-    tips: &'b [u8],
-    loose: &'b [u8],
-    few: &'b [u8],
-    nx: &'b [u64],
-    ny: &'b [u64],
-    n: usize,
+fn mark_by_place(
+    vertice: &[u8],
+    nodes: &Nodes<'_, '_>,
+    tips: &[u8],
+    loose: &[u8],
+    few: &[u8],
     most: usize,
     vx: &mut [u64],
     vy: &mut [u64],
@@ -157,18 +136,19 @@ fn mark_by_place<'a, 'b>(
     idle: &mut [u8],
     odd: &mut [u8],
 )
-    requires { Positions nx.now ny.now Kind.Nodo (table_of nodo.now Kind.Nodo) n × Tips tips.now (table_of vertice.now Kind.Vertice) × (n ≤ length loose.now) × (n ≤ length few.now) × (n ≤ most) × ((table_of vertice.now Kind.Vertice).count ≤ most) × (most ≤ length vx.old) × (most ≤ length vy.old) × (most ≤ length order.old) × (most ≤ length pairs.old) × (most ≤ length pair_order.old) × (most ≤ length refs.old) × (most ≤ length used.old) × (most ≤ length off_tips.old) × (most ≤ length off_others.old) × (most ≤ length idle.old) × (most ≤ length odd.old) }
-    ensures marked { Marked idle.old idle.new (idle_by loose.now few.now (table_of vertice.now Kind.Vertice) (table_of nodo.now Kind.Nodo)) n }
-    ensures others { Marked odd.old odd.new (odd_by loose.now (table_of vertice.now Kind.Vertice) (table_of nodo.now Kind.Nodo)) n }
+    requires { Tips tips.now (table_of vertice.now Kind.Vertice) × (nodes.now.ids.n ≤ length loose.now) × (nodes.now.ids.n ≤ length few.now) × (nodes.now.ids.n ≤ most) × ((table_of vertice.now Kind.Vertice).count ≤ most) × (most ≤ length vx.old) × (most ≤ length vy.old) × (most ≤ length order.old) × (most ≤ length pairs.old) × (most ≤ length pair_order.old) × (most ≤ length refs.old) × (most ≤ length used.old) × (most ≤ length off_tips.old) × (most ≤ length off_others.old) × (most ≤ length idle.old) × (most ≤ length odd.old) }
+    ensures marked { Marked idle.old idle.new (idle_by loose.now few.now (table_of vertice.now Kind.Vertice) (table_of nodes.now.file.now Kind.Nodo)) nodes.now.ids.n }
+    ensures others { Marked odd.old odd.new (odd_by loose.now (table_of vertice.now Kind.Vertice) (table_of nodes.now.file.now Kind.Nodo)) nodes.now.ids.n }
 {
-    if asks_places(nodo, loose, few, n) {
+    let n = nodes.ids.n;
+    if asks_places(nodes.file, loose, few, n) {
         let v = fill_positions(vertice, Kind::Vertice, most, vx, vy);
         mark_sorts(
-            tips, vx, vy, v, nx, ny, n, hints, order, pairs, pair_hints, pair_order, refs, used,
-            off_tips, off_others,
+            tips, vx, vy, v, nodes.xs, nodes.ys, n, hints, order, pairs, pair_hints, pair_order,
+            refs, used, off_tips, off_others,
         );
         mark_idle(loose, off_tips, off_others, few, n, idle);
-        mark_odd(nodo, loose, off_tips, off_others, n, odd);
+        mark_odd(nodes.file, loose, off_tips, off_others, n, odd);
     } else {
         clear(idle, n);
         clear(odd, n);
@@ -176,21 +156,14 @@ fn mark_by_place<'a, 'b>(
 }
 
 // The same with room for the marks too.
-fn mark_in_room<'a, 'b>(
-    ob_pun: &'a [u8],
-    tramo: &'a [u8],
-    vertice: &'a [u8],
-    nodo: &'a [u8],
-    ids: &'b [u64],
-    ranks: &'b [usize],
-    nodes: &'b [u16],
-    by: Way,
-    n: usize,
-    named: &'b [u8],
-    counts: &'b [u8],
-    tips: &'b [u8],
-    nx: &'b [u64],
-    ny: &'b [u64],
+fn mark_in_room(
+    ob_pun: &[u8],
+    tramo: &[u8],
+    vertice: &[u8],
+    nodes: &Nodes<'_, '_>,
+    named: &[u8],
+    counts: &[u8],
+    tips: &[u8],
     most: usize,
     vx: &mut [u64],
     vy: &mut [u64],
@@ -208,14 +181,14 @@ fn mark_in_room<'a, 'b>(
     idle: &mut [u8],
     odd: &mut [u8],
 )
-    requires { Ready ids.now ranks.now nodes.now n by × Fills ids.now (λ j. name_at Kind.Nodo (table_of nodo.now Kind.Nodo) j 1) (table_of nodo.now Kind.Nodo).count n × Named ids.now ranks.now nodes.now by.hinted n named.now (ends_tramo (table_of tramo.now Kind.Tramo)) × Counted ids.now ranks.now nodes.now by.hinted n counts.now (λ j. name_at Kind.ObPun (table_of ob_pun.now Kind.ObPun) j 3) (table_of ob_pun.now Kind.ObPun).count × Tips tips.now (table_of vertice.now Kind.Vertice) × Positions nx.now ny.now Kind.Nodo (table_of nodo.now Kind.Nodo) n × (n ≤ most) × ((table_of vertice.now Kind.Vertice).count ≤ most) × (most ≤ length vx.old) × (most ≤ length vy.old) × (most ≤ length order.old) × (most ≤ length pairs.old) × (most ≤ length pair_order.old) × (most ≤ length refs.old) × (most ≤ length used.old) × (most ≤ length loose.old) × (most ≤ length few.old) × (most ≤ length off_tips.old) × (most ≤ length off_others.old) × (most ≤ length idle.old) × (most ≤ length odd.old) }
-    ensures marked { Marked idle.old idle.new (node_idle (table_of ob_pun.now Kind.ObPun) (table_of tramo.now Kind.Tramo) (table_of vertice.now Kind.Vertice) (table_of nodo.now Kind.Nodo)) (table_of nodo.now Kind.Nodo).count }
-    ensures others { Marked odd.old odd.new (disagrees (table_of tramo.now Kind.Tramo) (table_of vertice.now Kind.Vertice) (table_of nodo.now Kind.Nodo)) (table_of nodo.now Kind.Nodo).count }
+    requires { Named nodes.now.ids.keys.now nodes.now.ids.order.now nodes.now.ids.hints.now nodes.now.ids.way.hinted nodes.now.ids.n named.now (ends_tramo (table_of tramo.now Kind.Tramo)) × Counted nodes.now.ids.keys.now nodes.now.ids.order.now nodes.now.ids.hints.now nodes.now.ids.way.hinted nodes.now.ids.n counts.now (λ j. name_at Kind.ObPun (table_of ob_pun.now Kind.ObPun) j 3) (table_of ob_pun.now Kind.ObPun).count × Tips tips.now (table_of vertice.now Kind.Vertice) × (nodes.now.ids.n ≤ most) × ((table_of vertice.now Kind.Vertice).count ≤ most) × (most ≤ length vx.old) × (most ≤ length vy.old) × (most ≤ length order.old) × (most ≤ length pairs.old) × (most ≤ length pair_order.old) × (most ≤ length refs.old) × (most ≤ length used.old) × (most ≤ length loose.old) × (most ≤ length few.old) × (most ≤ length off_tips.old) × (most ≤ length off_others.old) × (most ≤ length idle.old) × (most ≤ length odd.old) }
+    ensures marked { Marked idle.old idle.new (node_idle (table_of ob_pun.now Kind.ObPun) (table_of tramo.now Kind.Tramo) (table_of vertice.now Kind.Vertice) (table_of nodes.now.file.now Kind.Nodo)) (table_of nodes.now.file.now Kind.Nodo).count }
+    ensures others { Marked odd.old odd.new (disagrees (table_of tramo.now Kind.Tramo) (table_of vertice.now Kind.Vertice) (table_of nodes.now.file.now Kind.Nodo)) (table_of nodes.now.file.now Kind.Nodo).count }
 {
-    mark_unheld(ids, ranks, nodes, by, n, named, 1, loose);
-    mark_unheld(ids, ranks, nodes, by, n, counts, 2, few);
+    mark_unheld(&nodes.ids, named, 1, loose);
+    mark_unheld(&nodes.ids, counts, 2, few);
     mark_by_place(
-        vertice, nodo, tips, loose, few, nx, ny, n, most, vx, vy, hints, order, pairs, pair_hints,
+        vertice, nodes, tips, loose, few, most, vx, vy, hints, order, pairs, pair_hints,
         pair_order, refs, used, off_tips, off_others, idle, odd,
     );
 }
@@ -223,21 +196,14 @@ fn mark_in_room<'a, 'b>(
 // 56 and 58 of the nodes, with their ids, X and Y, which of them start or end a tramo, how many point objects name them, and which vertices
 // are tips in hand and room lent. Tramos and point objects are there for the contract alone. The marks of what a node is not stand in arrays of
 // its own, since nothing else reads them.
-pub fn mark_nodes<'a, 'b>(
-    ob_pun: &'a [u8],
-    tramo: &'a [u8],
-    vertice: &'a [u8],
-    nodo: &'a [u8],
-    ids: &'b [u64],
-    ranks: &'b [usize],
-    nodes: &'b [u16],
-    by: Way,
-    n: usize,
-    named: &'b [u8],
-    counts: &'b [u8],
-    tips: &'b [u8],
-    nx: &'b [u64],
-    ny: &'b [u64],
+pub fn mark_nodes(
+    ob_pun: &[u8],
+    tramo: &[u8],
+    vertice: &[u8],
+    nodes: &Nodes<'_, '_>,
+    named: &[u8],
+    counts: &[u8],
+    tips: &[u8],
     most: usize,
     vx: &mut [u64],
     vy: &mut [u64],
@@ -251,9 +217,9 @@ pub fn mark_nodes<'a, 'b>(
     idle: &mut [u8],
     odd: &mut [u8],
 )
-    requires { Ready ids.now ranks.now nodes.now n by × Fills ids.now (λ j. name_at Kind.Nodo (table_of nodo.now Kind.Nodo) j 1) (table_of nodo.now Kind.Nodo).count n × Named ids.now ranks.now nodes.now by.hinted n named.now (ends_tramo (table_of tramo.now Kind.Tramo)) × Counted ids.now ranks.now nodes.now by.hinted n counts.now (λ j. name_at Kind.ObPun (table_of ob_pun.now Kind.ObPun) j 3) (table_of ob_pun.now Kind.ObPun).count × Tips tips.now (table_of vertice.now Kind.Vertice) × Positions nx.now ny.now Kind.Nodo (table_of nodo.now Kind.Nodo) n × (n ≤ most) × (most ≤ limit) × ((table_of vertice.now Kind.Vertice).count ≤ most) × (most ≤ length vx.old) × (most ≤ length vy.old) × (most ≤ length order.old) × (most ≤ length pairs.old) × (most ≤ length pair_order.old) × (most ≤ length refs.old) × (most ≤ length used.old) × (most ≤ length idle.old) × (most ≤ length odd.old) }
-    ensures marked { Marked idle.old idle.new (node_idle (table_of ob_pun.now Kind.ObPun) (table_of tramo.now Kind.Tramo) (table_of vertice.now Kind.Vertice) (table_of nodo.now Kind.Nodo)) (table_of nodo.now Kind.Nodo).count }
-    ensures others { Marked odd.old odd.new (disagrees (table_of tramo.now Kind.Tramo) (table_of vertice.now Kind.Vertice) (table_of nodo.now Kind.Nodo)) (table_of nodo.now Kind.Nodo).count }
+    requires { Named nodes.now.ids.keys.now nodes.now.ids.order.now nodes.now.ids.hints.now nodes.now.ids.way.hinted nodes.now.ids.n named.now (ends_tramo (table_of tramo.now Kind.Tramo)) × Counted nodes.now.ids.keys.now nodes.now.ids.order.now nodes.now.ids.hints.now nodes.now.ids.way.hinted nodes.now.ids.n counts.now (λ j. name_at Kind.ObPun (table_of ob_pun.now Kind.ObPun) j 3) (table_of ob_pun.now Kind.ObPun).count × Tips tips.now (table_of vertice.now Kind.Vertice) × (nodes.now.ids.n ≤ most) × (most ≤ limit) × ((table_of vertice.now Kind.Vertice).count ≤ most) × (most ≤ length vx.old) × (most ≤ length vy.old) × (most ≤ length order.old) × (most ≤ length pairs.old) × (most ≤ length pair_order.old) × (most ≤ length refs.old) × (most ≤ length used.old) × (most ≤ length idle.old) × (most ≤ length odd.old) }
+    ensures marked { Marked idle.old idle.new (node_idle (table_of ob_pun.now Kind.ObPun) (table_of tramo.now Kind.Tramo) (table_of vertice.now Kind.Vertice) (table_of nodes.now.file.now Kind.Nodo)) (table_of nodes.now.file.now Kind.Nodo).count }
+    ensures others { Marked odd.old odd.new (disagrees (table_of tramo.now Kind.Tramo) (table_of vertice.now Kind.Vertice) (table_of nodes.now.file.now Kind.Nodo)) (table_of nodes.now.file.now Kind.Nodo).count }
 {
     let mut loose = [0u8; LIMIT];
     let mut few = [0u8; LIMIT];
@@ -263,17 +229,10 @@ pub fn mark_nodes<'a, 'b>(
         ob_pun,
         tramo,
         vertice,
-        nodo,
-        ids,
-        ranks,
         nodes,
-        by,
-        n,
         named,
         counts,
         tips,
-        nx,
-        ny,
         most,
         vx,
         vy,

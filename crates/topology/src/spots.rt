@@ -1,12 +1,11 @@
 // Places as numbers, and 54 by them: nodes at one place. X and Y of each record are one number, and with Z another, so that two are equal
 // exactly where the places are.
-ghost use Rattle.std.specs.Prelude.{◌≤◌, length, get_or};
+ghost use Rattle.std.specs.Prelude.{◌≡◌, ◌≤◌, length, get_or};
 ghost use Rattle.laws.specs.Find.{any};
 ghost use Rattle.laws.specs.Row.{Narrow};
 ghost use Rattle.index.specs.Keys.{room};
 ghost use Rattle.index.specs.Marks.{Marked};
 ghost use Rattle.index.specs.Pairs.{wide, Pairs};
-ghost use Rattle.index.specs.Way.{Ready};
 ghost use Rattle.record.specs.machinery.Columns.{Fills};
 ghost use Rattle.record.specs.Table.{limit};
 ghost use Rattle.record.specs.Says.{table_of};
@@ -14,11 +13,10 @@ ghost use Rattle.topology.specs.Rules.{placed_before};
 ghost use Rattle.topology.specs.machinery.Places.{spot_of, same_in, Positions, Nodes};
 ghost use Rattle.topology.specs.machinery.Used.{};
 
+use crate::each::fill_each;
 use crate::nodes::spot;
 use index::marks::clear;
-use index::numbers::mark_repeats;
-use index::pairs::fill_pairs;
-use index::way::{Way, prepare};
+use index::way::Lookup;
 use record::fill::fill_places;
 use record::kind::Kind;
 
@@ -35,19 +33,20 @@ pub fn fill_positions(s: &[u8], k: Kind, most: usize, xs: &mut [u64], ys: &mut [
 // Two columns as one, with a way to look up the first.
 pub(crate) fn pair_up<'a>(
     firsts: &'a [u64],
-    seconds: &'a [u64],
+    seconds: &[u64],
     n: usize,
-    hints: &mut [u16],
-    order: &mut [usize],
+    hints: &'a mut [u16],
+    order: &'a mut [usize],
     out: &mut [u64],
-) -> Way
+) -> Lookup<'a>
     requires { (n ≤ room) × (n ≤ length firsts.now) × (n ≤ length seconds.now) × (n ≤ length order.old) × (n ≤ length out.old) × Narrow seconds.now n wide }
-    ensures ready { Ready firsts.now order.new hints.new n result }
+    ensures keys { result.keys.now ≡ firsts.now }
+    ensures n { result.n ≡ n }
     ensures pairs { Pairs firsts.now seconds.now out.new n }
 {
-    let way = prepare(firsts, n, hints, order);
-    fill_pairs(firsts, order, hints, way, seconds, n, out);
-    way
+    let by = Lookup::prepare(firsts, n, hints, order);
+    by.fill_pairs(seconds, out);
+    by
 }
 
 // Z of each of n nodes, with X and Y in hand, which are there for the contract alone.
@@ -64,11 +63,7 @@ fn fill_spots<'a>(xs: &'a [u64], ys: &'a [u64], zs: &'a [u64], n: usize, out: &m
     requires { (n ≤ limit) × (n ≤ length xs.now) × (n ≤ length ys.now) × (n ≤ length zs.now) × (n ≤ length out.old) }
     ensures { Fills out.new (λ i. spot_of (get_or xs.now i 0) (get_or ys.now i 0) (get_or zs.now i 0)) n n }
 {
-    let mut i = 0;
-    while i < n {
-        out[i] = spot(xs[i], ys[i], zs[i]);
-        i += 1;
-    }
+    fill_each(n, out, |i| spot(xs[i], ys[i], zs[i]));
 }
 
 // Marks each of n records at an earlier one's place, by the columns of X, Y and Z.
@@ -88,8 +83,8 @@ fn mark_same<'a>(
 {
     pair_up(xs, ys, n, hints, order, pairs);
     pair_up(pairs, zs, n, hints, order, spots);
-    let way = prepare(spots, n, hints, order);
-    mark_repeats(spots, order, hints, way, n, marks);
+    let by = Lookup::prepare(spots, n, hints, order);
+    by.mark_repeats(marks);
 }
 
 // 54: marks the nodes at an earlier one's place, with X and Y of the nodes in hand and room lent. Where no two spots are equal no two places are.
@@ -110,8 +105,8 @@ pub fn mark_same_place<'a, 'b>(
 {
     fill_heights(nodo, xs, ys, n, zs);
     fill_spots(xs, ys, zs, n, spots);
-    let way = prepare(spots, n, hints, order);
-    if way.apart {
+    let by = Lookup::prepare(spots, n, hints, order);
+    if by.way.apart {
         clear(marks, n);
         return;
     }

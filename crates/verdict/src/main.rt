@@ -14,6 +14,5 @@ fn main(rt: HostRuntime) {
         return;
     }
     let line = program_line(files_in(&room, lens));
-    let bytes = line.bytes;
-    let _ = rt.stdout().write_all(part(&bytes, 0, line.len));
+    let _ = rt.stdout().write_all(part(&line.bytes, 0, line.len));
 }

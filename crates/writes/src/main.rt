@@ -4,7 +4,7 @@
 
 use codec::read::read;
 use codec::values::{
-    Answer, Value, Values, coordinate_value, missing_value, number_value, text_value,
+    Refusal, Value, Values, coordinate_value, missing_value, number_value, text_value,
 };
 use codec::write::write;
 use record::cut::part;
@@ -12,55 +12,33 @@ use record::reason::Reason;
 use std::io;
 use std::io::Write;
 
-fn say<W: Write>(out: &mut W, t: &[u8]) -> io::Result<()> {
-    out.write_all(t)
-}
-
-fn say_two<W: Write>(out: &mut W, n: usize) -> io::Result<()> {
-    let mut t = [0u8; 2];
-    field::number::put_number(&mut t, n as u64);
-    say(out, &t)?;
-    Ok(())
-}
+// The byte with which a room is filled.
+const FILL: u8 = 170;
 
 fn say_refusal<W: Write>(out: &mut W, reason: Reason, field: usize) -> io::Result<()> {
-    say(out, b" NO ")?;
-    say_two(out, reason.number() as usize)?;
-    say(out, b" ")?;
-    say_two(out, field)?;
-    Ok(())
+    write!(out, " NO {:02} {field:02}", reason.number())
 }
 
 // Whether every byte is the one with which a room is filled.
 fn untouched(t: &[u8]) -> bool {
-    let mut i = 0;
-    while i < t.len() {
-        if t[i] != 170 {
-            return false;
-        }
-        i += 1;
-    }
-    true
+    t.iter().all(|b| *b == FILL)
 }
 
 fn say_kept<W: Write>(out: &mut W, t: &[u8]) -> io::Result<()> {
-    if untouched(t) {
-        say(out, b" kept\n")?;
-    } else {
-        say(out, b" touched\n")?;
-    }
-    Ok(())
+    let state = if untouched(t) { "kept" } else { "touched" };
+    writeln!(out, " {state}")
 }
 
 // A record's bytes; its end is shown in letters.
 fn say_record<W: Write>(out: &mut W, room: &[u8], text: usize) -> io::Result<()> {
-    say(out, b" ")?;
-    say(out, part(room, 0, text))?;
-    if field::class::byte(part(room, text, 1), 0) == 13 {
-        say(out, b"\\r")?;
+    out.write_all(b" ")?;
+    out.write_all(part(room, 0, text))?;
+    let end = part(room, text, 2);
+    if end.first() == Some(&b'\r') {
+        out.write_all(b"\\r")?;
     }
-    if field::class::byte(part(room, text, 2), 1) == 10 {
-        say(out, b"\\n")?;
+    if end.get(1) == Some(&b'\n') {
+        out.write_all(b"\\n")?;
     }
     Ok(())
 }
@@ -85,55 +63,47 @@ fn past(room: &[u8], text: usize) -> &[u8] {
 }
 
 // Writes into the first bytes of a room, as many as are lent.
-fn write_first(file: usize, v: Values, room: &mut [u8], lent: usize) -> Answer {
-    if lent <= room.len() {
-        write(file, v, &mut room[..lent])
-    } else {
-        write(file, v, room)
-    }
+fn write_first(file: usize, v: Values, room: &mut [u8], lent: usize) -> Result<(), Refusal> {
+    let n = lent.min(room.len());
+    write(file, v, &mut room[..n])
 }
 
 // Writes into a room of 160 bytes, of which the first are lent, and prints the answer.
 fn tell<W: Write>(out: &mut W, file: usize, v: Values, lent: usize, shown: bool) -> io::Result<()> {
     let text = text_bytes(file);
-    let mut room = [170u8; 160];
-    let answer = write_first(file, v, &mut room, lent);
-    match answer {
-        Answer::Refused(reason, field) => {
-            say_refusal(out, reason, field)?;
-            say_kept(out, &room)?;
+    let mut room = [FILL; 160];
+    match write_first(file, v, &mut room, lent) {
+        Err(r) => {
+            say_refusal(out, r.reason, r.field)?;
+            say_kept(out, &room)
         }
-        Answer::Done => {
-            say(out, b" OK")?;
+        Ok(()) => {
+            out.write_all(b" OK")?;
             if shown {
                 say_record(out, &room, text)?;
             }
-            say(out, b" rest")?;
-            say_kept(out, past(&room, text))?;
+            out.write_all(b" rest")?;
+            say_kept(out, past(&room, text))
         }
     }
-    Ok(())
 }
 
 // A case of one file's values in a room with bytes to spare.
 fn case<W: Write>(out: &mut W, label: &[u8], file: usize, v: Values) -> io::Result<()> {
-    say(out, label)?;
-    tell(out, file, v, 160, false)?;
-    Ok(())
+    out.write_all(label)?;
+    tell(out, file, v, 160, false)
 }
 
 // The same, and the record is shown.
 fn show<W: Write>(out: &mut W, label: &[u8], file: usize, v: Values) -> io::Result<()> {
-    say(out, label)?;
-    tell(out, file, v, 160, true)?;
-    Ok(())
+    out.write_all(label)?;
+    tell(out, file, v, 160, true)
 }
 
 // A node in a room of so many bytes.
 fn room<W: Write>(out: &mut W, label: &[u8], v: Values, lent: usize) -> io::Result<()> {
-    say(out, label)?;
-    tell(out, 7, v, lent, false)?;
-    Ok(())
+    out.write_all(label)?;
+    tell(out, 7, v, lent, false)
 }
 
 fn none() -> Values {
@@ -145,10 +115,8 @@ fn none() -> Values {
 // The values with another one at a field.
 fn set(v: Values, f: usize, x: Value) -> Values {
     let mut at = v.at;
-    if 0 < f {
-        if f < 15 {
-            at[f - 1] = x;
-        }
+    if 0 < f && f <= at.len() {
+        at[f - 1] = x;
     }
     Values { at }
 }
@@ -189,8 +157,7 @@ fn nodes<W: Write>(out: &mut W) -> io::Result<()> {
     case(out, b"node TIPO A1", 7, text(v, 2, b"\xA1"))?;
     show(out, b"node TIPO H", 7, text(v, 2, b"H"))?;
     case(out, b"node TIPO h", 7, text(v, 2, b"h"))?;
-    case(out, b"node TIPO P", 7, text(v, 2, b"P"))?;
-    Ok(())
+    case(out, b"node TIPO P", 7, text(v, 2, b"P"))
 }
 
 fn files<W: Write>(out: &mut W) -> io::Result<()> {
@@ -198,13 +165,12 @@ fn files<W: Write>(out: &mut W) -> io::Result<()> {
     case(out, b"file 0", 0, v)?;
     case(out, b"file 9", 9, v)?;
     show(out, b"file 7", 7, v)?;
-    say(out, b"file 9 room of 0")?;
+    out.write_all(b"file 9 room of 0")?;
     tell(out, 9, v, 0, false)?;
     room(out, b"room of 49", v, 49)?;
     room(out, b"room of 49 id missing", no(v, 1), 49)?;
     room(out, b"room of 50", v, 50)?;
-    room(out, b"room of 60", v, 60)?;
-    Ok(())
+    room(out, b"room of 60", v, 60)
 }
 
 fn line(code: &[u8], name: &[u8]) -> Values {
@@ -240,8 +206,7 @@ fn names<W: Write>(out: &mut W) -> io::Result<()> {
     case(out, b"name A0 last", 4, named(b"A\xA0"))?;
     case(out, b"name of A0", 4, named(b"\xA0"))?;
     case(out, b"name NA and A0", 4, named(b"NA\xA0"))?;
-    case(out, b"name A1 first and last", 4, named(b"\xA1A\xA1"))?;
-    Ok(())
+    case(out, b"name A1 first and last", 4, named(b"\xA1A\xA1"))
 }
 
 fn codes<W: Write>(out: &mut W) -> io::Result<()> {
@@ -250,8 +215,7 @@ fn codes<W: Write>(out: &mut W) -> io::Result<()> {
     case(out, b"code ND", 4, line(b"ND", b"a"))?;
     show(out, b"code na", 4, line(b"na", b"a"))?;
     case(out, b"code NA and A0", 4, line(b"NA\xA0", b"a"))?;
-    case(out, b"code with A0", 4, line(b"NA\xA0A", b"a"))?;
-    Ok(())
+    case(out, b"code with A0", 4, line(b"NA\xA0A", b"a"))
 }
 
 fn centroids<W: Write>(out: &mut W) -> io::Result<()> {
@@ -275,8 +239,7 @@ fn centroids<W: Write>(out: &mut W) -> io::Result<()> {
         b"centroid X and Y",
         4,
         coordinate(coordinate(v, 6, 100), 8, 200),
-    )?;
-    Ok(())
+    )
 }
 
 fn catalogued(tipo: &[u8]) -> Values {
@@ -290,8 +253,7 @@ fn catalogue<W: Write>(out: &mut W) -> io::Result<()> {
     case(out, b"catalogue TIPO A0", 1, catalogued(b"\xA0"))?;
     case(out, b"catalogue TIPO A1", 1, catalogued(b"\xA1"))?;
     show(out, b"catalogue TIPO C", 1, catalogued(b"C"))?;
-    case(out, b"catalogue TIPO S", 1, catalogued(b"S"))?;
-    Ok(())
+    case(out, b"catalogue TIPO S", 1, catalogued(b"S"))
 }
 
 fn tramo(sense: &[u8]) -> Values {
@@ -305,15 +267,13 @@ fn tramos<W: Write>(out: &mut W) -> io::Result<()> {
     show(out, b"tramo sense blank", 5, tramo(b""))?;
     show(out, b"tramo sense -", 5, tramo(b"-"))?;
     case(out, b"tramo sense A0", 5, tramo(b"\xA0"))?;
-    case(out, b"tramo sense A1", 5, tramo(b"\xA1"))?;
-    Ok(())
+    case(out, b"tramo sense A1", 5, tramo(b"\xA1"))
 }
 
 fn vertices<W: Write>(out: &mut W) -> io::Result<()> {
     let v = node(100, 200);
     case(out, b"vertex order 100000", 6, number(v, 2, 100000))?;
-    show(out, b"vertex order 99999", 6, number(v, 2, 99999))?;
-    Ok(())
+    show(out, b"vertex order 99999", 6, number(v, 2, 99999))
 }
 
 fn texts<W: Write>(out: &mut W) -> io::Result<()> {
@@ -326,8 +286,7 @@ fn texts<W: Write>(out: &mut W) -> io::Result<()> {
     show(out, b"text justification 9", 3, number(v, 8, 9))?;
     case(out, b"text justification 10", 3, number(v, 8, 10))?;
     case(out, b"text orientation 36000", 3, number(v, 7, 36000))?;
-    show(out, b"text orientation 35959", 3, number(v, 7, 35959))?;
-    Ok(())
+    show(out, b"text orientation 35959", 3, number(v, 7, 35959))
 }
 
 fn points<W: Write>(out: &mut W) -> io::Result<()> {
@@ -338,8 +297,7 @@ fn points<W: Write>(out: &mut W) -> io::Result<()> {
     show(out, b"point orientation 59", 2, number(v, 6, 59))?;
     case(out, b"point orientation 60", 2, number(v, 6, 60))?;
     case(out, b"point orientation 35960", 2, number(v, 6, 35960))?;
-    case(out, b"point orientation 100000", 2, number(v, 6, 100000))?;
-    Ok(())
+    case(out, b"point orientation 100000", 2, number(v, 6, 100000))
 }
 
 fn composite(code: &[u8], name: &[u8]) -> Values {
@@ -396,11 +354,10 @@ fn composites<W: Write>(out: &mut W) -> io::Result<()> {
         coordinate(v, 7, 10000000000),
     )?;
     case(out, b"composite wide Y", 8, coordinate(x, 7, 10000000000))?;
-    say(out, b"composite room of 116")?;
+    out.write_all(b"composite room of 116")?;
     tell(out, 8, v, 116, false)?;
-    say(out, b"composite room of 117")?;
-    tell(out, 8, v, 117, false)?;
-    Ok(())
+    out.write_all(b"composite room of 117")?;
+    tell(out, 8, v, 117, false)
 }
 
 fn say_reading<W: Write>(
@@ -410,15 +367,12 @@ fn say_reading<W: Write>(
     bytes: &[u8],
     n: usize,
 ) -> io::Result<()> {
-    say(out, label)?;
-    let reading = read(file, bytes, n);
-    let answer = reading.answer;
-    match answer {
-        Answer::Refused(reason, field) => say_refusal(out, reason, field)?,
-        Answer::Done => say(out, b" OK")?,
+    out.write_all(label)?;
+    match read(file, bytes, n) {
+        Err(r) => say_refusal(out, r.reason, r.field)?,
+        Ok(_) => out.write_all(b" OK")?,
     }
-    say(out, b"\n")?;
-    Ok(())
+    out.write_all(b"\n")
 }
 
 // A node's file of one record, read.
@@ -429,8 +383,7 @@ fn say_node_reading<W: Write>(out: &mut W, label: &[u8], n: usize) -> io::Result
         7,
         b"0000000001| |+|000000100|+|0000000200| |        \r\n",
         n,
-    )?;
-    Ok(())
+    )
 }
 
 fn composites_read<W: Write>(out: &mut W) -> io::Result<()> {
@@ -524,8 +477,7 @@ fn composites_read<W: Write>(out: &mut W) -> io::Result<()> {
         8,
         b"0000000001|0500000|a                                                           |+|000000001|-|0000000002| |        \r\n",
         1,
-    )?;
-    Ok(())
+    )
 }
 
 fn main(rt: HostRuntime) -> io::Result<()> {

@@ -8,6 +8,7 @@ use Rattle.record.specs.declared.kind.Form.TheVariants.{Words, Code, Sign, Numbe
 use Rattle.record.specs.Table.{form_at, fields_of, widest}
 use Rattle.record.specs.Says.{Said}
 use Rattle.codec.specs.declared.values.Value.{Value}
+use Rattle.codec.specs.declared.held.Held.{Held}
 use Rattle.codec.specs.Values.{said_by}
 
 -- a value of these: what has a length is given
@@ -21,6 +22,9 @@ text_held texts f = take widest (drop (widest * (f - 1)) texts)
 -- what the arrays hold of field f, counted from 1
 unfoldable pub held_at : List ℕ → List ℤ → List ℕ → List ℕ → ℕ → Value
 held_at numbers coordinates lengths texts f = value_by (get_or (0 ∷ numbers) f 0) (get_or (pos 0 ∷ coordinates) f (pos 0)) (get_or (0 ∷ lengths) f 0) (text_held texts f)
+
+abbrev pub held : Held → ℕ → Value
+held h f = held_at h.numbers.now h.coordinates.now h.lengths.now h.texts.now f
 
 -- what the values of a record of the kind say at its fields, where at has them
 unfoldable pub say_by : Kind → (ℕ → Value) → ℕ → Said

@@ -1,11 +1,7 @@
--- `deliveries::after_lengths` is safe, ends and answers a later place: a length takes a byte to eight.
+-- `deliveries::after_lengths` is safe and answers a later place: a length takes a byte to eight.
 -- Assumes nothing.
-use Prim.Native.Nat.{◌+◌, ◌*◌, ◌-◌, ◌≤◌}
-use Rattle.record.specs.Table.{file_count}
+use Prim.Native.Nat.{◌+◌, ◌*◌, ◌≤◌}
 use Rattle.deliveries.proofs.after_lengths.Given as goal
 
-abbrev pub invariant-loop-n : goal.invariant-loop-n
-invariant-loop-n l = (l.n ≤ file_count) × (l.at + l.n ≤ l.next) × (l.next ≤ l.at + 8 * l.n)
-
-abbrev pub decreases-loop-n : goal.decreases-loop-n
-decreases-loop-n l = file_count - l.n
+abbrev pub invariant-loop : goal.invariant-loop
+invariant-loop l = (l.at + l.counter ≤ l.next) × (l.next ≤ l.at + 8 * l.counter)

@@ -3,7 +3,7 @@
 use Rattle.std.specs.Prelude.{ℕ, Bool, [], eqb}
 use Rattle.laws.specs.Row.{pick}
 use Rattle.record.specs.declared.kind.Kind.{Kind}
-use Rattle.record.specs.declared.reason.Finding.{Finding}
+use Rattle.record.specs.Breaks.{Finding}
 use Rattle.record.specs.Files.{Delivery}
 use Rattle.keys.specs.machinery.Groups.{Tests, group_finding, broken_by, over_files}
 use Rattle.topology.specs.Rules.{fifties, fifty_reasons}

@@ -7,7 +7,7 @@ pub returns : goal.returns
 returns g c =
     on_ok_weaker c.write_all-4.result
     (λ end. (
-      c.part-words.result.now,
+      c.without_number-words.result.now,
       Appends-trans _ _ _ _ _
           (Appends-trans _ _ _ _ _ (Appends-trans _ _ _ _ _ c.in_ok-write_all.ensures.bytes c.in_ok-write_all-2.ensures.bytes) c.in_ok-write_all-3.ensures.bytes) end,
     ))

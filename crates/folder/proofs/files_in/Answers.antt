@@ -1,9 +1,10 @@
 -- `folder::files_in` meets its contract.
 -- Assumes nothing.
-use Rattle.laws.specs.Row.{row}
-use Rattle.folder.specs.Folder.{files_read}
+use Rattle.std.proofs.Common.{◌*◌, get_or, take, drop, rules}
+use Rattle.laws.proofs.MadeLaws.{made_by}
+use Rattle.folder.specs.Folder.{file_room, files_read}
 use Rattle.folder.proofs.files_in.Goals as goal
 
 pub returns : goal.returns
-unfolding files_read row
-returns c = rw (c.part-8.ensures, c.part-7.ensures, c.part-6.ensures, c.part-5.ensures, c.part-4.ensures, c.part-3.ensures, c.part-2.ensures, c.part.ensures)
+unfolding files_read
+returns c = made_by (λ x. x.now) (λ i. take (get_or c.args.lens i 0) (drop (file_room * i) c.args.room.now)) (λ i r q k. (search rules, search rules)) c.from_fn.ensures.items

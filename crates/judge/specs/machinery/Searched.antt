@@ -4,8 +4,8 @@
 use Rattle.std.specs.Prelude.{ℕ, ◌+◌, ◌/◌, Bool, false, [], ◌∷◌, get_or}
 use Rattle.laws.specs.Find.{first_of}
 use Rattle.record.specs.declared.kind.Kind.{Kind}
-use Rattle.record.specs.declared.reason.Finding.{Finding}
-use Rattle.record.specs.declared.reason.Finding.TheVariants.{Fine}
+use Rattle.record.specs.Breaks.{Finding}
+use Rattle.std.specs.Prelude.{Ok}
 use Rattle.record.specs.Files.{Files, delivery_of}
 use Rattle.record.specs.Breaks.{finding_of, shape_finding, fields_finding, broken}
 use Rattle.keys.specs.machinery.Groups.{break_in, over_files}
@@ -18,16 +18,16 @@ use Rattle.judge.specs.Broken.{last_ten}
 unfoldable pub group_at : Files → ℕ → Finding
 group_at files t =
     get_or
-    (Fine
+    (Ok tt
     ∷ over_files (λ k. shape_finding (files k) k)
     ∷ over_files (λ k. fields_finding (files k) k)
     ∷ keys_finding 3 (delivery_of files)
     ∷ keys_finding 4 (delivery_of files)
     ∷ topology_finding (delivery_of files)
-    ∷ Fine
+    ∷ Ok tt
     ∷ objects_finding (delivery_of files)
     ∷ [])
-    t Fine
+    t (Ok tt)
 
 -- the first break, the tens in their order
 unfoldable pub searched : Files → Finding

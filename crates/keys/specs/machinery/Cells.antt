@@ -7,8 +7,8 @@ use Rattle.index.specs.Keys.{found_of}
 use Rattle.index.specs.Tally.{no_tally, with_cell, tally_of}
 use Rattle.index.specs.declared.tally.Tally.{Tally}
 use Rattle.record.specs.declared.kind.Kind.{Kind}
-use Rattle.record.specs.declared.kind.Which.{Which}
-use Rattle.record.specs.declared.kind.Which.TheVariants.{NoFile, File}
+use Rattle.record.specs.Table.{Which}
+use Rattle.std.specs.Prelude.{None, Some}
 use Rattle.record.specs.Table.{keys_of, kinds}
 use Rattle.record.specs.Says.{Table}
 use Rattle.record.specs.Files.{Delivery}
@@ -47,8 +47,8 @@ key_tally t d k = tally_in (key_tests t d k) k (d k).count
 
 -- by a file's number, and in each file
 abbrev pub tally_at : (Kind → Tally) → Which → Tally
-tally_at g NoFile = no_tally
-tally_at g (File k) = g k
+tally_at g None = no_tally
+tally_at g (Some k) = g k
 
 unfoldable pub key_tallies : ℕ → Delivery → List Tally
 key_tallies t d = map (key_tally t d) kinds

@@ -2,7 +2,7 @@
 -- Assumes nothing.
 use Rattle.std.specs.Prelude.{ℕ, Bool}
 use Rattle.record.specs.declared.kind.Kind.{Kind}
-use Rattle.record.specs.declared.reason.Finding.{Finding}
+use Rattle.record.specs.Breaks.{Finding}
 use Rattle.record.specs.Files.{Delivery}
 use Rattle.keys.specs.Rules.{key_tests, key_reasons}
 use Rattle.keys.specs.machinery.Groups.{group_finding, broken_by, over_files}

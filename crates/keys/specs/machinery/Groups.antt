@@ -5,13 +5,13 @@ use Rattle.std.specs.Prelude.{ℕ, ◌+◌, ◌-◌, ◌*◌, ◌/◌, ◌%◌, 
 use Rattle.std.proofs.Math.Option.{Option, none, some}
 use Rattle.laws.specs.Find.{first_of, hit}
 use Rattle.record.specs.declared.kind.Kind.{Kind}
-use Rattle.record.specs.declared.kind.Which.{Which}
-use Rattle.record.specs.declared.kind.Which.TheVariants.{NoFile, File}
+use Rattle.record.specs.Table.{Which}
+use Rattle.std.specs.Prelude.{None, Some}
 use Rattle.record.specs.declared.reason.Reason.{Reason}
 use Rattle.record.specs.declared.reason.Reason.TheVariants.{LongFile10}
 use Rattle.record.specs.declared.reason.Break.{Break}
-use Rattle.record.specs.declared.reason.Finding.{Finding}
-use Rattle.record.specs.declared.reason.Finding.TheVariants.{Fine, Broken}
+use Rattle.record.specs.Breaks.{Finding}
+use Rattle.std.specs.Prelude.{Ok, Err}
 use Rattle.record.specs.Table.{fields_of, which_of, file_count}
 use Rattle.record.specs.Breaks.{break_of, finding_of}
 
@@ -42,12 +42,12 @@ broken_by tests k m n i f =
 
 -- OVER THE FILES, in the order of their numbers
 abbrev pub break_in : Finding → Option Break
-break_in Fine = none
-break_in (Broken b) = some b
+break_in (Ok u) = none
+break_in (Err b) = some b
 
 abbrev pub at_file : (Kind → Finding) → Which → Finding
-at_file g NoFile = Fine
-at_file g (File k) = g k
+at_file g None = (Ok tt)
+at_file g (Some k) = g k
 
 -- the first break of the files' findings
 unfoldable pub over_files : (Kind → Finding) → Finding

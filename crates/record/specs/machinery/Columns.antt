@@ -2,8 +2,8 @@
 -- Assumes nothing.
 use Rattle.std.specs.Prelude.{ℕ, ◌≤◌, ◌<◌, List, ◌≡◌, length, get_or}
 use Rattle.record.specs.declared.kind.Kind.{Kind}
-use Rattle.record.specs.declared.kind.Which.{Which}
-use Rattle.record.specs.declared.kind.Which.TheVariants.{NoFile, File}
+use Rattle.record.specs.Table.{Which}
+use Rattle.std.specs.Prelude.{None, Some}
 use Rattle.record.specs.Table.{limit}
 use Rattle.record.specs.Files.{Delivery}
 
@@ -29,8 +29,8 @@ abbrev pub few : ℕ
 few = 512
 
 abbrev pub Few : Delivery → Which → Type 0
-Few d NoFile = Unit
-Few d (File k) = (d k).count ≤ few
+Few d None = Unit
+Few d (Some k) = (d k).count ≤ few
 
 pub record AllFew (d : Delivery) : Type 0 where
   pub each : (k : Kind) → (d k).count ≤ few

@@ -9,8 +9,8 @@ use Rattle.record.specs.declared.kind.Domain.{Domain}
 use Rattle.record.specs.declared.kind.Domain.TheVariants.{Any, ObjectType, PlusMinus, NodeType, Orientation, Justification}
 use Rattle.record.specs.declared.kind.Target.{Target}
 use Rattle.record.specs.declared.kind.Target.TheVariants.{Free, Nowhere, To}
-use Rattle.record.specs.declared.kind.Which.{Which}
-use Rattle.record.specs.declared.kind.Which.TheVariants.{NoFile, File}
+use Rattle.record.specs.Table.{Which}
+use Rattle.std.specs.Prelude.{None, Some}
 use Rattle.record.specs.Table.{Col, whole, fields, file_of, which_of}
 
 -- the digits of forms and domains, and back
@@ -47,8 +47,8 @@ target_field Nowhere = 0
 target_field (To k g) = g
 
 abbrev pub target_in : Which → ℕ → Target
-target_in NoFile g = Free
-target_in (File k) g = To k g
+target_in None g = Free
+target_in (Some k) g = To k g
 
 unfoldable pub target_by : ℕ → ℕ → Target
 target_by n g = pick (eqb n 15) Nowhere (target_in (which_of n) g)

@@ -4,8 +4,6 @@
 use Rattle.std.specs.Prelude.{ℕ, ◌+◌, ◌*◌, ◌%◌, Bool, ◌&&◌, List, eqb, get_or}
 use Rattle.laws.specs.Row.{Narrow}
 use Rattle.index.specs.Pairs.{wide}
-use Rattle.index.specs.declared.Found.{Found}
-use Rattle.index.specs.declared.Found.TheVariants.{At, Nothing}
 use Rattle.record.specs.machinery.Columns.{Fills}
 use Rattle.record.specs.declared.kind.Kind.{Kind}
 use Rattle.record.specs.declared.kind.Kind.TheVariants.{Nodo}
@@ -32,8 +30,3 @@ pub record Nodes (xs ys zs : List ℕ) (t : Table) (r : ℕ) : Type 0 where
   pub plane : Positions xs ys Nodo t r
   pub z : Fills zs (z_at Nodo t) t.count r
   pub narrow : Narrow zs r wide
-
--- a found index, and 0 where there is none
-abbrev pub or_index : Found → ℕ
-or_index Nothing = 0
-or_index (At j) = j

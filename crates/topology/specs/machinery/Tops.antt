@@ -1,10 +1,9 @@
 -- Machinery: the highest vertex of each line, by a look-up of the line among the lines of the vertices. No promise cites this file.
 -- Assumes nothing.
-use Rattle.std.specs.Prelude.{ℕ, ◌<◌, ◌≤◌, List, ◌≡◌, length, get_or}
+use Rattle.std.specs.Prelude.{ℕ, ◌<◌, ◌≤◌, List, ◌≡◌, length, get_or, Some}
 use Rattle.index.specs.Keys.{listed}
 use Rattle.index.specs.Look.{key_line}
 use Rattle.index.specs.Way.{look_of, Ready}
-use Rattle.index.specs.declared.Found.TheVariants.{At}
 use Rattle.index.specs.declared.way.Way.{Way}
 use Rattle.topology.specs.machinery.Lent.{Holds}
 use Rattle.topology.specs.Rules.{highest_in}
@@ -19,4 +18,4 @@ pub record Tops (keys lines order hints tops : List ℕ) (n : ℕ) (way : Way) (
   pub ready : Ready lines order hints n way
   pub of : Holds lines (line_of keys) n
   pub room : n ≤ length tops
-  pub top : (r : ℕ) → r < n → look_of lines order hints way.hinted n (get_or lines r 0) ≡ At r → get_or tops r 0 ≡ highest_in (listed keys) (get_or lines r 0) m
+  pub top : (r : ℕ) → r < n → look_of lines order hints way.hinted n (get_or lines r 0) ≡ Some r → get_or tops r 0 ≡ highest_in (listed keys) (get_or lines r 0) m

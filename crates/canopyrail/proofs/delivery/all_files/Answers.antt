@@ -1,20 +1,10 @@
--- `canopyrail::delivery::all_files` meets its contract. The loop's invariant: the files before number `n` are those of the row.
+-- `canopyrail::delivery::all_files` meets its contract.
 -- Assumes nothing.
 use mathlib.Core.List.{[], map}
-use mathlib.Core.Path.{refl, ◌∙◌}
-use native.Mathlib.Omega.{arith}
-use lib.ListN.{length-set, length-map}
-use Rattle.laws.proofs.RowLaws.{row-start}
-use Rattle.canopyrail.proofs.CallLaws.{lent-more, lent-end}
+use Rattle.std.proofs.Common.{get_or, rules}
+use Rattle.laws.proofs.MadeLaws.{made_by}
+use Rattle.canopyrail.proofs.CallLaws.{lent-files}
 use Rattle.canopyrail.proofs.delivery.all_files.Goals as goal
 
-pub loop-n-init : goal.loop-n-init
-loop-n-init c = (omega arith, refl, row-start _ [])
-
-pub loop-n-preserved : goal.loop-n-preserved
-loop-n-preserved c = let l = c.loop-n in
-    (omega arith, simp length-set l.invariant.1, lent-more (λ x. x.now) _ l.n l.all _ (omega arith) l.invariant.2 c.file_at.ensures)
-
 pub returns : goal.returns
-returns c = let l = c.loop-n in
-    lent-end (map (λ x. x.now) l.all) _ (length-map l.all (λ x. x.now) ∙ l.invariant.1) l.invariant.0 c.loop-n-test.false l.invariant.2
+returns c = lent-files _ _ (made_by (λ x. x.now) (λ n. get_or (map (λ x. x.now) c.args.files.now) n []) (λ n r q k. (search rules, search rules)) c.from_fn.ensures.items)

@@ -5,14 +5,10 @@ use Rattle.record.specs.Files.{Files}
 use Rattle.judge.specs.declared.judge.Verdict.{Verdict}
 use Rattle.judge.specs.Verdict.{judged, verdict_of}
 use Rattle.canopyrail.specs.Answers.{finding_word}
-use Rattle.canopyrail.proofs.CallLaws.{none_lent}
 use Rattle.canopyrail.proofs.delivery.canopyrail_judge.Goals as goal
-
-pub returns-then-files-eq0 : goal.returns-then-files-eq0
-returns-then-files-eq0 c = none_lent (λ x. x.now) c.args.files.now c.if-files-eq0.true
 
 pub returns : goal.returns
 unfolding verdict_of
 returns c = c.finding_word.ensures
-    ∙ ap (λ (v : Verdict). finding_word v.finding) c.judge-v.ensures
+    ∙ ap (λ (v : Verdict). finding_word v.finding) c.judge.ensures
     ∙ ap (λ (files : Files). finding_word (judged files)) c.all_files.ensures

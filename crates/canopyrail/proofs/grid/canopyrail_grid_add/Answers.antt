@@ -1,6 +1,6 @@
 -- `canopyrail::grid::canopyrail_grid_add` meets its contract.
 -- Assumes nothing.
-use mathlib.Core.Path.{sym, ◌∙◌}
+use mathlib.Core.Path.{refl}
 use native.Mathlib.Omega.{arith}
 use Rattle.canopyrail.proofs.CellLaws.{adds-few, adds-few-from, adds-refused, adds-put}
 use Rattle.canopyrail.proofs.grid.canopyrail_grid_add.Goals as goal
@@ -11,10 +11,8 @@ returns-then-into-lt-CELLS c = adds-few _ _ c.if-into-lt-CELLS.true c.refusal.en
 pub returns-then-from-lt-CELLS : goal.returns-then-from-lt-CELLS
 returns-then-from-lt-CELLS c = adds-few-from _ _ (omega arith) c.if-from-lt-CELLS.true c.refusal-then-from-lt-CELLS.ensures
 
-pub returns-then-is_fine : goal.returns-then-is_fine
-returns-then-is_fine c = adds-put _ _ (omega arith) (omega arith) c.grid_in-a.ensures c.grid_in-b.ensures c.add_finding-finding.ensures
-    (sym c.is_fine.ensures ∙ c.if-is_fine.true) c.add.ensures c.put_grid.ensures
+pub returns-in-Ok : goal.returns-in-Ok
+returns-in-Ok c = adds-put _ _ (omega arith) (omega arith) c.grid_in-a.ensures c.grid_in-b.ensures c.in-Ok.ensures refl c.add.ensures c.put_grid.ensures
 
-pub returns : goal.returns
-returns c = adds-refused _ _ (omega arith) (omega arith) c.grid_in-a.ensures c.grid_in-b.ensures c.add_finding-finding.ensures
-    (sym c.is_fine.ensures ∙ c.if-is_fine.false) c.finding_word.ensures
+pub returns-in-Err : goal.returns-in-Err
+returns-in-Err c = adds-refused _ _ (omega arith) (omega arith) c.grid_in-a.ensures c.grid_in-b.ensures c.in-Err.ensures refl c.break_word.ensures

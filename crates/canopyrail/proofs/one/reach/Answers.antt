@@ -2,9 +2,9 @@
 -- Assumes nothing.
 use native.Mathlib.Omega.{arith}
 use Rattle.canopyrail.specs.Lent.{is_lent}
-use Rattle.canopyrail.proofs.LentLaws.{text-reached}
+use Rattle.canopyrail.proofs.LentLaws.{below-min, text-reached}
 use Rattle.canopyrail.proofs.one.reach.Goals as goal
 
 pub returns : goal.returns
 unfolding is_lent
-returns c = (omega (arith, c.least-2.ensures.1, c.least-3.ensures.0), λ i. rw (c.least-3.ensures.2 i, c.least-2.ensures.2 i, c.least.ensures.2 i, text-reached c.args.texts i))
+returns c = (omega arith, λ i. rw (c.min-3.ensures, c.min-2.ensures, c.min.ensures, below-min, below-min, below-min, text-reached c.args.texts i))

@@ -1,10 +1,9 @@
 -- `canopyrail::table::canopyrail_form` meets its contract.
 -- Assumes nothing.
-use Rattle.canopyrail.proofs.CallLaws.{on_none, on_some}
+use borrow.Author.Rules.{rules}
+use Rattle.record.specs.Table.{on_file}
 use Rattle.canopyrail.proofs.table.canopyrail_form.Goals as goal
 
-pub returns-in-NoFile : goal.returns-in-NoFile
-returns-in-NoFile c = on_none _ _ _ c.kind_of.ensures c.in-NoFile.is
-
-pub returns-in-File : goal.returns-in-File
-returns-in-File c = on_some _ _ _ _ c.kind_of.ensures c.in-File.is c.form_in.ensures
+pub returns : goal.returns
+unfolding on_file
+returns c = rw (← c.kind_of.ensures) (search rules)

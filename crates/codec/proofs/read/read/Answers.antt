@@ -3,10 +3,10 @@
 use Rattle.codec.specs.Calls.{read_of}
 use Rattle.codec.proofs.read.read.Goals as goal
 
-pub returns-in-NoFile : goal.returns-in-NoFile
+pub returns-in-None : goal.returns-in-None
 unfolding read_of
-returns-in-NoFile c = rw (← c.kind_of.ensures, c.in-NoFile.is) c.no_reading.ensures
+returns-in-None c = rw (← c.kind_of.ensures, c.in-None.is)
 
-pub returns-in-File : goal.returns-in-File
+pub returns-in-Some : goal.returns-in-Some
 unfolding read_of
-returns-in-File c = rw (← c.kind_of.ensures, c.in-File.is) c.read_in.ensures
+returns-in-Some c = rw (← c.kind_of.ensures, c.in-Some.is) c.read_in.ensures

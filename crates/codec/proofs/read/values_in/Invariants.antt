@@ -1,6 +1,5 @@
 -- `codec::read::values_in` meets its contract.
 -- Assumes nothing.
-use Prim.Native.Nat.{◌-◌, ◌≤◌}
 use mathlib.Core.Path.{◌≡◌}
 use lib.ListN.{length, take}
 use Rattle.laws.specs.Row.{row}
@@ -8,7 +7,4 @@ use Rattle.codec.proofs.ReadLaws.{value_no}
 use Rattle.codec.proofs.read.values_in.Given as goal
 
 abbrev pub invariant-loop-i : goal.invariant-loop-i
-invariant-loop-i l = (l.i ≤ 14) × (length l.at ≡ 14) × (take l.i l.at ≡ row (value_no l.rec l.k) l.i)
-
-abbrev pub decreases-loop-i : goal.decreases-loop-i
-decreases-loop-i l = 14 - l.i
+invariant-loop-i l = (length l.at ≡ 14) × (take l.i l.at ≡ row (value_no l.rec l.k) l.i)

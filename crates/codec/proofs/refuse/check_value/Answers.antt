@@ -8,10 +8,10 @@ use Rattle.codec.proofs.refuse.check_value.Goals as goal
 
 pub returns-then-j-lt4 : goal.returns-then-j-lt4
 returns-then-j-lt4 c = let a = c.args in
-    let t = sixties a.k (say_by a.k (held_at a.numbers.now a.coordinates.now a.lengths.now a.texts.now)) a.f in
+    let t = sixties a.k (say_by a.k (held_at a.h.now.numbers.now a.h.now.coordinates.now a.h.now.lengths.now a.h.now.texts.now)) a.f in
     place-broken t sixty_reasons a.k 0 a.f (c.first_true-j.ensures ∙ rw c.tests-tests.ensures) c.if-j-lt4.true (c.break_of.ensures ∙ rw c.sixty_reason.ensures)
 
 pub returns-else-j-lt4 : goal.returns-else-j-lt4
 returns-else-j-lt4 c = let a = c.args in
-    let t = sixties a.k (say_by a.k (held_at a.numbers.now a.coordinates.now a.lengths.now a.texts.now)) a.f in
+    let t = sixties a.k (say_by a.k (held_at a.h.now.numbers.now a.h.now.coordinates.now a.h.now.lengths.now a.h.now.texts.now)) a.f in
     place-fine t sixty_reasons a.k 0 a.f (c.first_true-j.ensures ∙ rw c.tests-tests.ensures) c.if-j-lt4.false

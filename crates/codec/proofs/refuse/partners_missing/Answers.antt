@@ -25,17 +25,11 @@ pub blank_at-requires : goal.blank_at-requires
 blank_at-requires c = let a = c.args in
     omega (arith, partners-near a.k a.f)
 
-pub overflow_add-j : goal.overflow_add-j
-overflow_add-j c = omega arith
-
-pub loop-j-smaller : goal.loop-j-smaller
-loop-j-smaller c = omega arith
-
 pub loop-j-preserved : goal.loop-j-preserved
-loop-j-preserved c = λ n z t. left-more (c.loop-j.invariant n z t) (c.blank_at.ensures n z t) c.loop-j-test.true c.if-blank_at.true
+loop-j-preserved c = λ n z t. left-more (c.loop-j.invariant n z t) (c.blank_at.ensures n z t) c.loop-j-test.true c.if-not-blank_at.false
 
-pub returns-else-blank_at : goal.returns-else-blank_at
-returns-else-blank_at c = λ n z t. left-stop (c.loop-j.invariant n z t) (c.blank_at.ensures n z t) c.loop-j-test.true c.if-blank_at.false
+pub returns-then-not-blank_at : goal.returns-then-not-blank_at
+returns-then-not-blank_at c = λ n z t. left-stop (c.loop-j.invariant n z t) (c.blank_at.ensures n z t) c.loop-j-test.true c.if-not-blank_at.true
 
 pub returns : goal.returns
 returns c = λ n z t. left-none (c.loop-j.invariant n z t) c.loop-j-test.false

@@ -1,6 +1,5 @@
 -- `field::number::put_number` meets its contract. The loop's invariant: the digits of what is left, before the digits that stand from k on, are the digits of n.
 -- Assumes nothing.
-use Prim.Native.Nat.{◌≤◌}
 use mathlib.Core.Path.{◌≡◌}
 use mathlib.Core.List.{◌++◌}
 use lib.ListN.{length, drop}
@@ -8,7 +7,4 @@ use Rattle.field.specs.Digits.{digits}
 use Rattle.field.proofs.number.put_number.Given as goal
 
 abbrev pub invariant-loop-k : goal.invariant-loop-k
-invariant-loop-k l = (length l.part ≡ length l.initial.part) × (l.k ≤ length l.part) × (digits l.k l.left ++ drop l.k l.part ≡ digits (length l.initial.part) l.n)
-
-abbrev pub decreases-loop-k : goal.decreases-loop-k
-decreases-loop-k l = l.k
+invariant-loop-k l = digits l.k l.left ++ drop l.k l.part ≡ digits (length l.initial.part) l.n

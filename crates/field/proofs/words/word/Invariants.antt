@@ -1,12 +1,9 @@
 -- `field::words::word` meets its contract. The loop's invariant: n is the number of the k bytes passed, and has room for the rest.
 -- Assumes nothing.
-use Prim.Native.Nat.{◌≤◌, ◌<◌, ◌-◌, ◌^◌}
+use Prim.Native.Nat.{◌<◌, ◌^◌}
 use mathlib.Core.Path.{◌≡◌}
 use Rattle.field.specs.Texts.{padded, trimmed, base256}
 use Rattle.field.proofs.words.word.Given as goal
 
 abbrev pub invariant-loop-k : goal.invariant-loop-k
-invariant-loop-k l = (l.k ≤ 8) × (l.n ≡ base256 l.k (padded 8 (trimmed l.part))) × (l.n < 256 ^ l.k)
-
-abbrev pub decreases-loop-k : goal.decreases-loop-k
-decreases-loop-k l = 8 - l.k
+invariant-loop-k l = (l.n ≡ base256 l.k (padded 8 (trimmed l.part))) × (l.n < 256 ^ l.k)

@@ -6,15 +6,15 @@ use Rattle.fifties.proofs.FiftyTallies.{fifty-row, fifty-broken, fifty-fine}
 use Rattle.fifties.proofs.group.check_file.Goals as goal
 
 pub reason_in-reason-requires : goal.reason_in-reason-requires
-reason_in-reason-requires c = omega (arith, fifty-row _ _ c.requires c.if-t.true)
+reason_in-reason-requires c = omega (arith, fifty-row _ _ c.requires c.in-Some.is)
 
 pub overflow_add-i : goal.overflow_add-i
-overflow_add-i c = omega (arith, fifty-row _ _ c.requires c.if-t.true)
+overflow_add-i c = omega (arith, fifty-row _ _ c.requires c.in-Some.is)
 
-pub returns-then-t : goal.returns-then-t
+pub returns-in-Some : goal.returns-in-Some
 unfolding fifty_reasons
-returns-then-t c = fifty-broken _ _ c.requires c.if-t.true
+returns-in-Some c = fifty-broken _ _ c.requires c.in-Some.is
     (rw (← c.file_of.ensures, ← c.reason_in-reason.ensures) c.break_of.ensures)
 
-pub returns-else-t : goal.returns-else-t
-returns-else-t c = fifty-fine _ _ c.requires c.if-t.false
+pub returns-in-None : goal.returns-in-None
+returns-in-None c = fifty-fine _ _ c.requires c.in-None.is

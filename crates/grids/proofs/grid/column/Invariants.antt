@@ -1,20 +1,11 @@
 -- `grids::grid::column` meets its contract.
 -- Assumes nothing.
-use Prim.Native.Nat.{◌-◌, ◌≤◌, ◌<◌}
-use Rattle.record.specs.Table.{file_count}
-use Rattle.judge.specs.Broken.{groups}
 use Rattle.grids.proofs.FillLaws.{Filling}
 use Rattle.grids.proofs.GridLaws.{column_cell}
 use Rattle.grids.proofs.grid.column.Given as goal
 
 abbrev pub invariant-loop-g : goal.invariant-loop-g
-invariant-loop-g l = (l.i < file_count) × (l.g ≤ groups) × Filling (column_cell l.t l.counts) l.grid l.i l.g
-
-abbrev pub decreases-loop-g : goal.decreases-loop-g
-decreases-loop-g l = groups - l.g
+invariant-loop-g l = Filling (column_cell l.t l.counts) l.grid l.i l.g
 
 abbrev pub invariant-loop-i : goal.invariant-loop-i
-invariant-loop-i l = (l.i ≤ file_count) × Filling (column_cell l.t l.counts) l.grid l.i 0
-
-abbrev pub decreases-loop-i : goal.decreases-loop-i
-decreases-loop-i l = file_count - l.i
+invariant-loop-i l = Filling (column_cell l.t l.counts) l.grid l.i 0

@@ -3,10 +3,10 @@
 use Rattle.record.specs.Table.{on_file}
 use Rattle.grids.proofs.grid.count_bytes_of.Goals as goal
 
-pub returns-in-NoFile : goal.returns-in-NoFile
+pub returns-in-None : goal.returns-in-None
 unfolding on_file
-returns-in-NoFile c = rw c.in-NoFile.is
+returns-in-None c = rw c.in-None.is
 
-pub returns-in-File : goal.returns-in-File
+pub returns-in-Some : goal.returns-in-Some
 unfolding on_file
-returns-in-File c = rw (c.in-File.is, ← c.file_of.ensures) c.count_bytes.ensures
+returns-in-Some c = rw (c.in-Some.is, ← c.file_of.ensures) c.count_bytes.ensures

@@ -10,12 +10,6 @@ use Rattle.grids.specs.machinery.Counted.{counted_in, counted_of}
 use Rattle.grids.proofs.GridLaws.{counted-else}
 use Rattle.grids.proofs.grid.count_ten.Goals as goal
 
-pub returns-in-1 : goal.returns-in-1
-returns-in-1 c = rw c.in-1.is c.count_files.ensures
-
-pub returns-in-2 : goal.returns-in-2
-returns-in-2 c = rw c.in-2.is c.count_files-in-2.ensures
-
 pub returns-in-3 : goal.returns-in-3
 unfolding counted_of counted_in key_tallies
 returns-in-3 c = rw c.in-3.is (c.many_of.ensures ∙ ap (map (λ (t : Tally). t.many)) c.tally_keys.ensures)

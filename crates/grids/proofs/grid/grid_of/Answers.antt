@@ -13,24 +13,21 @@ use Rattle.grids.proofs.GridLaws.{quiet-start, quiet-more, quiet-here, quiet-end
 use Rattle.grids.proofs.grid.grid_of.Goals as goal
 
 pub loop-t-init : goal.loop-t-init
-loop-t-init c = (omega arith, omega arith, quiet-start _)
+loop-t-init c = quiet-start _
 
 pub returns-then-has_any : goal.returns-then-has_any
 returns-then-has_any c = let l = c.loop-t in
     let e = c.count_ten-counts.ensures in
     c.column.ensures
     ∙ ap (column_of l.t) e
-    ∙ quiet-here _ l.invariant.2 (omega (arith, c.loop-t-test.true))
+    ∙ quiet-here _ l.invariant (omega arith)
     (ap (λ (counts : List ℕ). any (λ i. ltb 0 (get_or counts i 0)) file_count) (sym e) ∙ sym c.has_any.ensures ∙ c.if-has_any.true)
 
 pub loop-t-preserved : goal.loop-t-preserved
 loop-t-preserved c = let l = c.loop-t in
-    let e = c.count_ten-counts.ensures in (
-      omega arith,
-      omega (arith, c.loop-t-test.true),
-      quiet-more _ l.invariant.2 (omega (arith, c.loop-t-test.true))
-          (ap (λ (counts : List ℕ). any (λ i. ltb 0 (get_or counts i 0)) file_count) (sym e) ∙ sym c.has_any.ensures ∙ c.if-has_any.false),
-    )
+    let e = c.count_ten-counts.ensures in
+    quiet-more _ l.invariant (omega arith)
+    (ap (λ (counts : List ℕ). any (λ i. ltb 0 (get_or counts i 0)) file_count) (sym e) ∙ sym c.has_any.ensures ∙ c.if-has_any.false)
 
 pub returns : goal.returns
-returns c = quiet-end _ c.loop-t.invariant.2 (omega (arith, c.loop-t-test.false))
+returns c = quiet-end _ c.loop-t.invariant (omega arith)

@@ -1,15 +1,11 @@
 -- `grids::sum::add` meets its contract.
 -- Assumes nothing.
-use mathlib.Core.Path.{sym, ◌∙◌}
 use Rattle.grids.specs.Sum.{add_of}
 use Rattle.grids.proofs.sum.add.Goals as goal
 
 pub returns-then-too_many : goal.returns-then-too_many
 unfolding add_of
 returns-then-too_many c = rw (← c.too_many.ensures, c.if-too_many.true)
-
-pub sum_of-requires : goal.sum_of-requires
-sum_of-requires c = sym c.too_many.ensures ∙ c.if-too_many.false
 
 pub returns : goal.returns
 unfolding add_of

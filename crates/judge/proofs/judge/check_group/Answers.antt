@@ -1,16 +1,17 @@
 -- `judge::judge::check_group` meets its contract, by the ten.
 -- Assumes nothing.
+use borrow.Author.Rules.{rules}
 use Rattle.judge.specs.machinery.Searched.{group_at}
 use Rattle.judge.proofs.JudgeLaws.{group-else}
 use Rattle.judge.proofs.judge.check_group.Goals as goal
 
 pub returns-in-1 : goal.returns-in-1
 unfolding group_at
-returns-in-1 c = rw c.in-1.is c.check_files.ensures
+returns-in-1 c = rw c.in-1.is (c.first_of_files.ensures _ (λ k v e. search rules))
 
 pub returns-in-2 : goal.returns-in-2
 unfolding group_at
-returns-in-2 c = rw c.in-2.is c.check_files-in-2.ensures
+returns-in-2 c = rw c.in-2.is (c.first_of_files-in-2.ensures _ (λ k v e. search rules))
 
 pub returns-in-3 : goal.returns-in-3
 unfolding group_at

@@ -9,15 +9,14 @@ use Rattle.judge.proofs.JudgeLaws.{count_turn, counts-row}
 use Rattle.judge.proofs.judge.count_all.Goals as goal
 
 pub loop-n-init : goal.loop-n-init
-loop-n-init c = (omega arith, refl, row-start _ [])
+loop-n-init c = (refl, row-start _ [])
 
 pub loop-n-preserved : goal.loop-n-preserved
 loop-n-preserved c = let l = c.loop-n in (
-  omega arith,
-  simp length-set l.invariant.1,
-  row_more _ l.n l.counts c.count_of.result (omega arith) l.invariant.2 (count_turn _ l.n c.kind_of.ensures c.count_of.ensures),
+  simp length-set l.invariant.0,
+  row_more _ l.n l.counts c.count_of.result (omega arith) l.invariant.1 (count_turn _ l.n c.kind_of.ensures c.count_of.ensures),
 )
 
 pub returns : goal.returns
 returns c = let l = c.loop-n in
-    row-end _ l.counts l.invariant.1 l.invariant.0 c.loop-n-test.false l.invariant.2 ∙ counts-row _
+    row-end _ l.counts l.invariant.0 l.auto.n-end c.loop-n-test.false l.invariant.1 ∙ counts-row _

@@ -1,6 +1,5 @@
 -- `judge::judge::count_all` meets its contract. The loop's invariant: the counts of the files before are those of the row.
 -- Assumes nothing.
-use Prim.Native.Nat.{◌-◌, ◌≤◌}
 use mathlib.Core.List.{map}
 use mathlib.Core.Path.{◌≡◌}
 use lib.ListN.{length, take}
@@ -12,7 +11,4 @@ use Rattle.judge.proofs.judge.count_all.Given as goal
 
 abbrev pub invariant-loop-n : goal.invariant-loop-n
 invariant-loop-n l =
-    (l.n ≤ file_count) × (length l.counts ≡ file_count) × (take l.n l.counts ≡ row (count_no (files_of (map (λ x. x.now) l.files))) l.n)
-
-abbrev pub decreases-loop-n : goal.decreases-loop-n
-decreases-loop-n l = file_count - l.n
+    (length l.counts ≡ file_count) × (take l.n l.counts ≡ row (count_no (files_of (map (λ x. x.now) l.files))) l.n)

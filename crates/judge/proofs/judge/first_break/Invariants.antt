@@ -1,6 +1,6 @@
 -- `judge::judge::first_break` meets its contract. The loop's invariant: the tens before `t` give nothing.
 -- Assumes nothing.
-use Prim.Native.Nat.{◌+◌, ◌-◌}
+use Prim.Native.Nat.{◌+◌}
 use mathlib.Core.List.{map}
 use Rattle.record.specs.Files.{files_of}
 use Rattle.keys.proofs.OverLaws.{Fines}
@@ -10,6 +10,3 @@ use Rattle.judge.proofs.judge.first_break.Given as goal
 
 abbrev pub invariant-loop-t : goal.invariant-loop-t
 invariant-loop-t l = Fines (group_at (files_of (map (λ x. x.now) l.files))) (last_ten + 1) l.t
-
-abbrev pub decreases-loop-t : goal.decreases-loop-t
-decreases-loop-t l = last_ten + 1 - l.t

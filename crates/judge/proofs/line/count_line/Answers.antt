@@ -5,12 +5,12 @@ use borrow.Author.Rules.{rules}
 use Rattle.judge.proofs.LineLaws.{counting_more, counting-end}
 use Rattle.judge.proofs.line.count_line.Goals as goal
 
-pub loop-i-init : goal.loop-i-init
-loop-i-init c = record { few = search rules; all = search rules; place = search rules; so_far = record { room = refl; written = refl; rest = refl } }
+pub loop-count-init : goal.loop-count-init
+loop-count-init c = record { few = search rules; all = search rules; place = search rules; so_far = record { room = refl; written = refl; rest = refl } }
 
-pub loop-i-preserved : goal.loop-i-preserved
-loop-i-preserved c = let w = c.put_word-at in
-    counting_more c.loop-i.invariant c.loop-i-test.true c.put_word-at.auto.buf w.ensures
+pub loop-count-preserved : goal.loop-count-preserved
+loop-count-preserved c = let w = c.put_word-at in
+    counting_more c.loop-count.invariant c.loop-count-test.true c.put_word-at.auto.buf w.ensures
 
 pub returns : goal.returns
-returns c = counting-end c.loop-i.invariant c.loop-i-test.false
+returns c = counting-end c.loop-count.invariant c.loop-count-test.false

@@ -2,5 +2,5 @@
 -- Assumes nothing.
 use Rattle.judge.proofs.line.is_big.Goals as goal
 
-pub returns-in-File : goal.returns-in-File
-returns-in-File c = rw (c.in-File.is, ← c.file_of.ensures)
+pub returns-in-Some : goal.returns-in-Some
+returns-in-Some c = rw (c.in-Some.is, ← c.file_of.ensures)

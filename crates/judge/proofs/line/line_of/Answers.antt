@@ -5,8 +5,8 @@ use Rattle.judge.specs.Line.{line_in}
 use Rattle.judge.proofs.LineLaws.{fine-line, broken-line}
 use Rattle.judge.proofs.line.line_of.Goals as goal
 
-pub returns-in-Fine : goal.returns-in-Fine
-returns-in-Fine c = c.count_line.ensures ∙ ap line_in (fine-line c.args.v _ c.in-Fine.is refl)
+pub returns-in-Ok : goal.returns-in-Ok
+returns-in-Ok c = c.count_line.ensures ∙ ap line_in (fine-line c.args.v _ c.in-Ok.is refl)
 
-pub returns-in-Broken : goal.returns-in-Broken
-returns-in-Broken c = c.break_line.ensures ∙ ap line_in (broken-line c.args.v _ _ c.in-Broken.is refl)
+pub returns-in-Err : goal.returns-in-Err
+returns-in-Err c = c.break_line.ensures ∙ ap line_in (broken-line c.args.v _ _ c.in-Err.is refl)

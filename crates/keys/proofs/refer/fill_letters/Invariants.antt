@@ -1,6 +1,5 @@
 -- `keys::refer::fill_letters` meets its contract. The loop's invariant: the letters of the first `j` records are in the array.
 -- Assumes nothing.
-use Prim.Native.Nat.{◌-◌}
 use mathlib.Core.Path.{◌≡◌}
 use lib.ListN.{length}
 use Rattle.record.specs.declared.kind.Kind.TheVariants.{Catalogo}
@@ -10,6 +9,3 @@ use Rattle.keys.proofs.refer.fill_letters.Given as goal
 
 abbrev pub invariant-loop-j : goal.invariant-loop-j
 invariant-loop-j l = (length l.out ≡ length l.initial.out) × Spelt (table_of l.cat Catalogo) l.out l.j
-
-abbrev pub decreases-loop-j : goal.decreases-loop-j
-decreases-loop-j l = l.n - l.j

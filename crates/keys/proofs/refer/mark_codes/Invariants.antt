@@ -1,6 +1,5 @@
 -- `keys::refer::mark_codes` meets its contract. The loop's invariant: the marks of the first `i` codes say which aren't catalogued, and which are under another type.
 -- Assumes nothing.
-use Prim.Native.Nat.{◌-◌}
 use lib.ListN.{get_or}
 use Rattle.index.specs.Marks.{Marked}
 use Rattle.keys.specs.Rules.{dangles}
@@ -9,8 +8,5 @@ use Rattle.keys.proofs.refer.mark_codes.Given as goal
 
 abbrev pub invariant-loop-i : goal.invariant-loop-i
 invariant-loop-i l =
-    Marked l.initial.marks l.marks (λ j. dangles (λ r. get_or l.codes r 0) l.n (get_or l.refs j 0)) l.i
-    × Marked l.initial.others l.others (λ j. mistyped_by l.codes l.letters l.n l.wanted (get_or l.refs j 0)) l.i
-
-abbrev pub decreases-loop-i : goal.decreases-loop-i
-decreases-loop-i l = l.m - l.i
+    Marked l.initial.marks l.marks (λ j. dangles (λ r. get_or l.codes.keys.now r 0) l.codes.n (get_or l.refs j 0)) l.i
+    × Marked l.initial.others l.others (λ j. mistyped_by l.codes.keys.now l.letters l.codes.n l.wanted (get_or l.refs j 0)) l.i

@@ -1,6 +1,5 @@
 -- `keys::refer::mark_present` meets its contract. The loop's invariant: the marks of the first `i` records say in which of them the field is there.
 -- Assumes nothing.
-use Prim.Native.Nat.{◌-◌}
 use mathlib.Core.Bool.{not}
 use lib.Dec.{eqb}
 use Rattle.index.specs.Marks.{Marked}
@@ -10,6 +9,3 @@ use Rattle.keys.proofs.refer.mark_present.Given as goal
 
 abbrev pub invariant-loop-i : goal.invariant-loop-i
 invariant-loop-i l = Marked l.initial.marks l.marks (λ j. not (eqb (name_at l.k (table_of l.s l.k) j l.f) 0)) l.i
-
-abbrev pub decreases-loop-i : goal.decreases-loop-i
-decreases-loop-i l = l.n - l.i

@@ -8,7 +8,7 @@ use Rattle.objects.proofs.composites.mark_named_by.Goals as goal
 
 pub mark_used-requires : goal.mark_used-requires
 mark_used-requires c = let p = c.requires in
-    (p.0, p.1, table-room (files_of (map (λ x. x.now) c.args.files)) c.file_of.ensures p.2)
+    (p.0, table-room (files_of (map (λ x. x.now) c.args.files)) c.file_of.ensures p.1)
 
 pub returns : goal.returns
 unfolding named_by

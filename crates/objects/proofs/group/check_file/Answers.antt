@@ -4,11 +4,11 @@ use native.Mathlib.Omega.{arith}
 use Rattle.objects.proofs.SeventyLaws.{seventy-row, seventy-broken, seventy-fine}
 use Rattle.objects.proofs.group.check_file.Goals as goal
 
-pub overflow_add-t : goal.overflow_add-t
-overflow_add-t c = omega (arith, seventy-row _ _ c.requires c.if-t.true)
+pub overflow_add-first : goal.overflow_add-first
+overflow_add-first c = omega (arith, seventy-row _ _ c.requires c.in-Some.is)
 
-pub returns-then-t : goal.returns-then-t
-returns-then-t c = seventy-broken _ _ c.requires c.if-t.true (rw (← c.reason_in-reason.ensures) c.break_of.ensures)
+pub returns-in-Some : goal.returns-in-Some
+returns-in-Some c = seventy-broken _ _ c.requires c.in-Some.is (rw (← c.reason_in-reason.ensures) c.break_of.ensures)
 
-pub returns-else-t : goal.returns-else-t
-returns-else-t c = seventy-fine _ _ c.requires c.if-t.false
+pub returns-in-None : goal.returns-in-None
+returns-in-None c = seventy-fine _ _ c.requires c.in-None.is

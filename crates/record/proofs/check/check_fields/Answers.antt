@@ -3,42 +3,27 @@
 use mathlib.Core.Path.{◌≡◌, ◌∙◌, sym}
 use native.Mathlib.Omega.{arith}
 use Rattle.laws.proofs.FindLaws.{first-start}
+use Rattle.std.proofs.lemmas.Result.{err_from_is_err_and}
 use Rattle.record.specs.Cut.{count_of}
 use Rattle.record.specs.Breaks.{finding_of}
 use Rattle.record.proofs.FindingLaws.{in_file, fields-is, record-turn, finding-more, finding-here, finding-end}
 use Rattle.record.proofs.check.check_fields.Goals as goal
 
 pub loop-i-init : goal.loop-i-init
-loop-i-init c = (omega arith, first-start _)
-
-pub overflow_add-i : goal.overflow_add-i
-overflow_add-i c = omega arith
-
-pub overflow_add-i-then-is_fine : goal.overflow_add-i-then-is_fine
-overflow_add-i-then-is_fine c = omega arith
-
-pub loop-i-smaller : goal.loop-i-smaller
-loop-i-smaller c = omega arith
+loop-i-init c = first-start _
 
 pub loop-i-preserved : goal.loop-i-preserved
-loop-i-preserved c =
-    let a = c.args in
-    let l = c.loop-i in
-    -- what a turn tells
-    let turn : c.check_record-v.result ≡ finding_of (in_file a.s.now a.k c.loop-i.i) = c.check_record-v.ensures ∙ rw c.record_bytes.ensures (record-turn _ _ _) in
-    (omega arith, finding-more _ l.i turn (sym c.is_fine.ensures ∙ c.if-is_fine.true) l.invariant.1)
+loop-i-preserved c = finding-more _ c.loop-i.i (c.in_ok-check_record.ensures ∙ rw c.record_bytes.ensures (record-turn _ _ _)) c.loop-i.invariant
 
-pub returns-else-is_fine : goal.returns-else-is_fine
-returns-else-is_fine c =
+pub returns-in_err-check_record : goal.returns-in_err-check_record
+returns-in_err-check_record c =
     let a = c.args in
-    let l = c.loop-i in
-    -- what a turn tells
-    let turn : c.check_record-v.result ≡ finding_of (in_file a.s.now a.k c.loop-i.i) = c.check_record-v.ensures ∙ rw c.record_bytes.ensures (record-turn _ _ _) in
-    finding-here _ (count_of a.s.now a.k) turn (sym c.is_fine.ensures ∙ c.if-is_fine.false) l.invariant.1
-    (omega (arith, c.records-n.ensures)) ∙ sym (fields-is a.s.now a.k)
+    let p = err_from_is_err_and c.from_residual.result c.from_residual.ensures.1 in
+    rw (p.1, p.2)
+    (finding-here _ (count_of a.s.now a.k) (c.in_err-check_record.ensures ∙ rw c.record_bytes.ensures (record-turn _ _ _)) c.loop-i.invariant (omega (arith, c.records-i-end.ensures))
+    ∙ sym (fields-is a.s.now a.k))
 
 pub returns : goal.returns
-returns c = let a = c.args in
-    let l = c.loop-i in
-    finding-end _ (count_of a.s.now a.k) c.records-n.ensures l.invariant.0 c.loop-i-test.false l.invariant.1
-    ∙ sym (fields-is a.s.now a.k)
+returns c =
+    let a = c.args in
+    finding-end _ (count_of a.s.now a.k) c.records-i-end.ensures c.loop-i.auto.i-end c.loop-i-test.false c.loop-i.invariant ∙ sym (fields-is a.s.now a.k)

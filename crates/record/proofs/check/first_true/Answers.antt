@@ -7,24 +7,15 @@ use Rattle.record.proofs.FindingLaws.{test-here, test-end}
 use Rattle.record.proofs.check.first_true.Goals as goal
 
 pub loop-j-init : goal.loop-j-init
-loop-j-init c = (omega arith, index-start _)
+loop-j-init c = index-start _
 
-pub bounds-t-j : goal.bounds-t-j
-bounds-t-j c = omega arith
-
-pub returns-then-t-j : goal.returns-then-t-j
-returns-then-t-j c = let t = c.args.t.now in
-    test-here t (length t) c.loop-j.invariant.1 (omega arith) c.if-t-j.true
-
-pub overflow_add-j : goal.overflow_add-j
-overflow_add-j c = omega arith
-
-pub loop-j-smaller : goal.loop-j-smaller
-loop-j-smaller c = omega arith
+pub returns-then-holds : goal.returns-then-holds
+returns-then-holds c = let t = c.args.t.now in
+    test-here t (length t) c.loop-j.invariant (omega arith) c.if-holds.true
 
 pub loop-j-preserved : goal.loop-j-preserved
-loop-j-preserved c = (omega arith, index-more _ c.loop-j.invariant.1 c.if-t-j.false)
+loop-j-preserved c = index-more _ c.loop-j.invariant c.if-holds.false
 
 pub returns : goal.returns
 returns c = let t = c.args.t.now in
-    test-end t (length t) (omega arith) (omega arith) c.loop-j.invariant.1
+    test-end t (length t) (omega arith) (omega arith) c.loop-j.invariant

@@ -3,7 +3,6 @@
 use mathlib.Core.Path.{◌∙◌}
 use mathlib.Core.List.{[]}
 use Rattle.record.proofs.SaysLaws.{missing-sign, missing-other}
-use borrow.Enum.Refused.{opened}
 use Rattle.record.proofs.columns.is_missing_in.Goals as goal
 
 pub returns-in-Sign : goal.returns-in-Sign
@@ -12,4 +11,4 @@ returns-in-Sign c = let a = c.args in
 
 pub returns-in_default : goal.returns-in_default
 returns-in_default c = let a = c.args in
-    c.all.ensures ∙ missing-other a.t.now [] a.form (opened c.in_default.in_default-own.keys2)
+    c.all.ensures ∙ missing-other a.t.now [] a.form c.in_default.not-Sign

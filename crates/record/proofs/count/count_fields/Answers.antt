@@ -9,29 +9,15 @@ use Rattle.record.proofs.count.count_fields.Goals as goal
 
 pub loop-i-init : goal.loop-i-init
 unfolding sum_of
-loop-i-init c = (omega arith, c.rows-n.ensures.value, c.rows-n.ensures.small, omega arith, refl)
-
-pub overflow_add-many : goal.overflow_add-many
-overflow_add-many c = let l = c.loop-i in
-    omega (arith, l.invariant.0, l.invariant.2, l.invariant.3, c.count_record-many.ensures.most)
-
-pub overflow_add-i : goal.overflow_add-i
-overflow_add-i c = omega arith
-
-pub loop-i-smaller : goal.loop-i-smaller
-loop-i-smaller c = omega arith
+loop-i-init c = (omega arith, refl)
 
 pub loop-i-preserved : goal.loop-i-preserved
 loop-i-preserved c = let l = c.loop-i in (
-  omega arith,
-  l.invariant.1,
-  l.invariant.2,
-  omega (arith, l.invariant.3, c.count_record-many.ensures.most),
-  rw (sum_more, ← l.invariant.4, c.count_record-many.ensures.value, c.record_bytes.ensures),
+  omega (arith, l.invariant.0, c.count_record-many.ensures.most),
+  rw (sum_more, ← l.invariant.1, c.count_record-many.ensures.value, c.record_bytes.ensures),
 )
 
 pub returns : goal.returns
 unfolding fields_many
 returns c = let l = c.loop-i in
-    let n = l.invariant.1 in
-    sum-end _ (omega (arith, n, l.invariant.0)) (omega (arith, n, c.loop-i-test.false)) l.invariant.4
+    sum-end _ {i = l.i} (omega (arith, c.rows-i-end.ensures.value)) (omega (arith, c.rows-i-end.ensures.value)) l.invariant.1

@@ -1,17 +1,11 @@
 -- `record::count::count_fields` meets its contract. The loop's invariant: the first `i` records have `many` breaks.
 -- Assumes nothing.
-use Prim.Native.Nat.{◌≤◌, ◌-◌, ◌*◌}
+use Prim.Native.Nat.{◌≤◌, ◌*◌}
 use mathlib.Core.Path.{◌≡◌}
 use Rattle.laws.specs.Count.{sum_of}
-use Rattle.record.specs.Table.{limit}
 use Rattle.record.specs.Cut.{record_of}
-use Rattle.record.specs.Says.{table_of}
 use Rattle.record.specs.machinery.Counts.{record_many}
 use Rattle.record.proofs.count.count_fields.Given as goal
 
 abbrev pub invariant-loop-i : goal.invariant-loop-i
-invariant-loop-i l =
-    (l.i ≤ l.n) × (l.n ≡ (table_of l.s l.k).count) × (l.n ≤ limit) × (l.many ≤ l.i * 90) × (l.many ≡ sum_of (λ j. record_many (record_of l.s l.k j) l.k) l.i)
-
-abbrev pub decreases-loop-i : goal.decreases-loop-i
-decreases-loop-i l = l.n - l.i
+invariant-loop-i l = (l.many ≤ l.i * 90) × (l.many ≡ sum_of (λ j. record_many (record_of l.s l.k j) l.k) l.i)

@@ -2,17 +2,8 @@
 -- Assumes nothing.
 use mathlib.Core.Path.{sym}
 use native.Mathlib.Nat.{add-sub_cancel_left}
-use native.Mathlib.Omega.{arith}
-use Rattle.record.proofs.CutLaws.{record-part, record-past, end-small, end-within, end-past}
+use Rattle.record.proofs.CutLaws.{record-part, record-past, end-within, end-past}
 use Rattle.record.proofs.cut.record_bytes.Goals as goal
-
-pub overflow_mul-a : goal.overflow_mul-a
-overflow_mul-a c = let a = c.args in
-    omega (arith, end-small a.k a.i c.length-n.ensures c.if-i-lt65536.true)
-
-pub overflow_add-e : goal.overflow_add-e
-overflow_add-e c = let a = c.args in
-    omega (arith, end-small a.k a.i c.length-n.ensures c.if-i-lt65536.true)
 
 pub returns-then-e-s : goal.returns-then-e-s
 returns-then-e-s c = let n = c.length-n in

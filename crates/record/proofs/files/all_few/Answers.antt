@@ -10,10 +10,10 @@ pub loop-n-init : goal.loop-n-init
 loop-n-init c = few-start _
 
 pub loop-n-preserved : goal.loop-n-preserved
-loop-n-preserved c = few-more c.loop-n.invariant (omega arith) c.kind_of.ensures (c.is_few.ensures c.if-is_few.true)
+loop-n-preserved c = few-more c.loop-n.invariant (omega arith) c.kind_of.ensures (c.is_few.ensures c.if-not-is_few.false)
 
-pub returns-else-is_few : goal.returns-else-is_few
-returns-else-is_few c = λ e. absurd (true-false (sym e))
+pub returns-then-not-is_few : goal.returns-then-not-is_few
+returns-then-not-is_few c = λ e. absurd (true-false (sym e))
 
 pub returns : goal.returns
 returns c = λ e. few-end c.loop-n.invariant (omega arith)

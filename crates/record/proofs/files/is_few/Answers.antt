@@ -3,5 +3,5 @@
 use Rattle.record.proofs.FileLaws.{few-file}
 use Rattle.record.proofs.files.is_few.Goals as goal
 
-pub returns-in-File : goal.returns-in-File
-returns-in-File c = λ e. few-file _ c.in-File.is c.file_of.ensures c.rows.ensures.value e
+pub returns-in-Some : goal.returns-in-Some
+returns-in-Some c = λ e. few-file _ c.in-Some.is c.file_of.ensures c.rows.ensures.value e

@@ -8,31 +8,16 @@ use Rattle.record.specs.Cut.{text_of}
 use Rattle.record.specs.Rules.{partners_blank}
 use Rattle.record.proofs.rules.partners_blank.Goals as goal
 
-pub overflow_add-n : goal.overflow_add-n
-overflow_add-n c = omega arith
-
-pub overflow_add-n-2 : goal.overflow_add-n-2
-overflow_add-n-2 c = omega arith
-
 pub loop-j-init : goal.loop-j-init
 unfolding partners_blank
 loop-j-init c = let a = c.args in
     left-all (all_of Blank) (text_of a.rec.now a.k) (omega arith) (omega arith)
 
-pub overflow_add-from : goal.overflow_add-from
-overflow_add-from c = omega arith
-
-pub overflow_add-j : goal.overflow_add-j
-overflow_add-j c = omega arith
-
-pub loop-j-smaller : goal.loop-j-smaller
-loop-j-smaller c = omega arith
-
 pub loop-j-preserved : goal.loop-j-preserved
-loop-j-preserved c = left-more c.loop-j.invariant c.blank_field.ensures c.loop-j-test.true c.if-blank_field.true
+loop-j-preserved c = left-more c.loop-j.invariant c.blank_field.ensures (omega arith) c.if-not-blank_field.false
 
-pub returns-else-blank_field : goal.returns-else-blank_field
-returns-else-blank_field c = left-stop c.loop-j.invariant c.blank_field.ensures c.loop-j-test.true c.if-blank_field.false
+pub returns-then-not-blank_field : goal.returns-then-not-blank_field
+returns-then-not-blank_field c = left-stop c.loop-j.invariant c.blank_field.ensures (omega arith) c.if-not-blank_field.true
 
-pub returns : goal.returns
-returns c = left-none c.loop-j.invariant c.loop-j-test.false
+pub returns-else-not-blank_field : goal.returns-else-not-blank_field
+returns-else-not-blank_field c = left-none (left-more c.loop-j.invariant c.blank_field.ensures (omega arith) c.if-not-blank_field.false) (omega arith)

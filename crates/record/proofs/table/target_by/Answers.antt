@@ -8,10 +8,10 @@ pub returns-then-file-eq15 : goal.returns-then-file-eq15
 unfolding target_by
 returns-then-file-eq15 c = rw (eq-eqb _ 15 c.if-file-eq15.true)
 
-pub returns-in-NoFile : goal.returns-in-NoFile
+pub returns-in-None : goal.returns-in-None
 unfolding target_by
-returns-in-NoFile c = rw (ne_eqb _ 15 c.if-file-eq15.false, ← c.kind_of.ensures, c.in-NoFile.is)
+returns-in-None c = rw (ne_eqb _ 15 c.if-file-eq15.false, ← c.kind_of.ensures, c.in-None.is)
 
-pub returns-in-File : goal.returns-in-File
+pub returns-in-Some : goal.returns-in-Some
 unfolding target_by
-returns-in-File c = rw (ne_eqb _ 15 c.if-file-eq15.false, ← c.kind_of.ensures, c.in-File.is)
+returns-in-Some c = rw (ne_eqb _ 15 c.if-file-eq15.false, ← c.kind_of.ensures, c.in-Some.is)

@@ -6,8 +6,5 @@ use Rattle.topology.proofs.ends.is_apart.Goals as goal
 pub returns-then-is_gone : goal.returns-then-is_gone
 returns-then-is_gone c = apart-gone _ _ _ _ _ c.is_gone.ensures c.if-is_gone.true
 
-pub is_elsewhere-requires : goal.is_elsewhere-requires
-is_elsewhere-requires c = c.requires
-
 pub returns : goal.returns
 returns c = apart-there _ _ _ _ _ c.is_gone.ensures c.if-is_gone.false c.key.ensures c.is_elsewhere.ensures

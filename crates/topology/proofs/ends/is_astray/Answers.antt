@@ -6,8 +6,5 @@ use Rattle.topology.proofs.ends.is_astray.Goals as goal
 pub returns-then-wanted-eq0 : goal.returns-then-wanted-eq0
 returns-then-wanted-eq0 c = astray-free _ _ _ _ c.if-wanted-eq0.true
 
-pub node_at-requires : goal.node_at-requires
-node_at-requires c = c.requires
-
 pub returns : goal.returns
 returns c = astray-named _ _ _ _ c.if-wanted-eq0.false c.node_at.ensures

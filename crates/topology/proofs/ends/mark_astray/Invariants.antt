@@ -1,6 +1,5 @@
 -- `topology::ends::mark_astray` meets its contract. The loop's invariant: the marks of the point objects before `i` say 55, and how often nodes are named is counted.
 -- Assumes nothing.
-use Prim.Native.Nat.{◌≤◌, ◌-◌}
 use mathlib.Core.Path.{◌≡◌}
 use lib.ListN.{length, get_or}
 use Rattle.index.specs.Keys.{listed}
@@ -13,10 +12,6 @@ use Rattle.topology.proofs.ends.mark_astray.Given as goal
 
 abbrev pub invariant-loop-i : goal.invariant-loop-i
 invariant-loop-i l =
-    (l.i ≤ l.n)
-    × Marked l.initial.marks l.marks (λ j. astray_at (table_of l.nodo Nodo) (get_or l.wanted j 0) (get_or l.xs j 0) (get_or l.ys j 0)) l.i
-    × Counted l.ids l.ranks l.nodes l.by.hinted l.m l.counts (listed l.wanted) l.i
+    Marked l.initial.marks l.marks (λ j. astray_at (table_of l.nodes.file.now Nodo) (get_or l.wanted j 0) (get_or l.xs j 0) (get_or l.ys j 0)) l.i
+    × Counted l.nodes.ids.keys.now l.nodes.ids.order.now l.nodes.ids.hints.now l.nodes.ids.way.hinted l.nodes.ids.n l.counts (listed l.wanted) l.i
     × (length l.counts ≡ length l.initial.counts)
-
-abbrev pub decreases-loop-i : goal.decreases-loop-i
-decreases-loop-i l = l.n - l.i

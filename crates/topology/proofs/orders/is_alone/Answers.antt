@@ -1,11 +1,7 @@
 -- `topology::orders::is_alone` meets its contract. The order is 1 or another.
 -- Assumes nothing.
 use Rattle.topology.proofs.OrderRules.{alone-one, alone-other}
-use native.Mathlib.Omega.{arith}
 use Rattle.topology.proofs.orders.is_alone.Goals as goal
-
-pub overflow_add-x : goal.overflow_add-x
-overflow_add-x c = omega (arith, c.type_inv.keys c.args.i)
 
 pub returns-then-x-eq1 : goal.returns-then-x-eq1
 returns-then-x-eq1 c = alone-one _ _ _ c.if-x-eq1.true c.is_there.ensures

@@ -1,19 +1,8 @@
--- `topology::orders::mark_gaps` meets its contract. The loop's invariant: the marks of the vertices before `i` say 50.
+-- `topology::orders::mark_gaps` meets its contract. A mark says 50 of its vertex.
 -- Assumes nothing.
-use mathlib.Core.Path.{refl, ap, ◌∙◌}
-use Rattle.laws.specs.Count.{bit}
-use Rattle.index.proofs.MarkLaws.{marked_start, marked_more, marked-end}
-use native.Mathlib.Omega.{arith}
+use borrow.Author.Rules.{rules}
+use Rattle.topology.proofs.EachLaws.{each-marked}
 use Rattle.topology.proofs.orders.mark_gaps.Goals as goal
 
-pub loop-i-init : goal.loop-i-init
-loop-i-init c = marked_start _ _
-
-pub bounds-marks-i : goal.bounds-marks-i
-bounds-marks-i c = omega (arith, c.loop-i.invariant.long)
-
-pub loop-i-preserved : goal.loop-i-preserved
-loop-i-preserved c = marked_more (omega (arith, c.loop-i.invariant.long)) (c.as_mark.ensures ∙ ap bit c.is_gap.ensures) c.loop-i.invariant
-
 pub returns : goal.returns
-returns c = marked-end _ refl c.loop-i-test.false c.loop-i.invariant
+returns c = each-marked _ (λ i x l h. search rules) c.fill_each.ensures

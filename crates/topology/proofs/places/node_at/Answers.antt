@@ -6,37 +6,34 @@ use Rattle.topology.proofs.LentLaws.{lent_at, lent_none, lent-here, lent-apart}
 use Rattle.topology.proofs.SpotLaws.{x-stands, y-stands, place-stands}
 use Rattle.topology.proofs.places.node_at.Goals as goal
 
-pub offset_bounds-xs-j : goal.offset_bounds-xs-j
-offset_bounds-xs-j c = let p = c.requires in
-    omega (arith, x-stands p.2 (lent_at p.1 _ p.3 c.in-At.is).0)
+pub offset_bounds-nodes-j : goal.offset_bounds-nodes-j
+offset_bounds-nodes-j c = let p = c.args.nodes.now in
+    omega (arith, x-stands p.placed (lent_at p.named _ c.requires c.in-Some.is).0)
 
-pub bounds-xs-j : goal.bounds-xs-j
-bounds-xs-j c = let p = c.requires in
-    x-stands p.2 (lent_at p.1 _ p.3 c.in-At.is).0
+pub bounds-nodes-j : goal.bounds-nodes-j
+bounds-nodes-j c = let p = c.args.nodes.now in
+    x-stands p.placed (lent_at p.named _ c.requires c.in-Some.is).0
 
-pub offset_bounds-ys-j : goal.offset_bounds-ys-j
-offset_bounds-ys-j c = let p = c.requires in
-    omega (arith, y-stands p.2 (lent_at p.1 _ p.3 c.in-At.is).0)
+pub offset_bounds-nodes-j-in-Some : goal.offset_bounds-nodes-j-in-Some
+offset_bounds-nodes-j-in-Some c = let p = c.args.nodes.now in
+    omega (arith, y-stands p.placed (lent_at p.named _ c.requires c.in-Some.is).0)
 
-pub bounds-ys-j : goal.bounds-ys-j
-bounds-ys-j c = let p = c.requires in
-    y-stands p.2 (lent_at p.1 _ p.3 c.in-At.is).0
+pub bounds-nodes-j-in-Some : goal.bounds-nodes-j-in-Some
+bounds-nodes-j-in-Some c = let p = c.args.nodes.now in
+    y-stands p.placed (lent_at p.named _ c.requires c.in-Some.is).0
 
-pub returns-then-xs-j : goal.returns-then-xs-j
+pub returns-then-nodes-j : goal.returns-then-nodes-j
 unfolding node_in
-returns-then-xs-j c = let p = c.requires in
-    let here = c.in-At.is in
-    lent-here p.1 _ p.3 _ here (place-stands p.2 (lent_at p.1 _ p.3 here).0 _ _ c.if-xs-j.true)
+returns-then-nodes-j c = let p = c.args.nodes.now in
+    let here = c.in-Some.is in
+    lent-here p.named _ c.requires _ here (place-stands p.placed (lent_at p.named _ c.requires here).0 _ _ c.if-nodes-j.true)
 
-pub returns-then-way : goal.returns-then-way
+pub returns-then-nodes : goal.returns-then-nodes
 unfolding node_in
-returns-then-way c = let p = c.requires in
-    let here = c.in-At.is in
-    lent-apart p.1 _ p.3 _ (p.0.apart c.if-way.true) here (place-stands p.2 (lent_at p.1 _ p.3 here).0 _ _ c.if-xs-j.false)
+returns-then-nodes c = let p = c.args.nodes.now in
+    let here = c.in-Some.is in
+    lent-apart p.named _ c.requires _ (p.ids.ready.apart c.if-nodes.true) here (place-stands p.placed (lent_at p.named _ c.requires here).0 _ _ c.if-nodes-j.false)
 
-pub returns-in-Nothing : goal.returns-in-Nothing
+pub returns-in-None : goal.returns-in-None
 unfolding node_in
-returns-in-Nothing c = lent_none c.requires.1 _ c.requires.3 _ c.in-Nothing.is
-
-pub returns-else-way : goal.returns-else-way
-returns-else-way c = c.scan_node.ensures
+returns-in-None c = lent_none c.args.nodes.now.named _ c.requires _ c.in-None.is

@@ -5,13 +5,13 @@ use Rattle.topology.proofs.TopLaws.{top-none, top_below, top-found}
 use Rattle.topology.proofs.tops.highest_of.Goals as goal
 
 pub offset_bounds-tops-r : goal.offset_bounds-tops-r
-offset_bounds-tops-r c = let h = top_below c.requires _ c.look-found.ensures.sought c.in-At.is in omega arith
+offset_bounds-tops-r c = let h = top_below c.requires _ c.look-found.ensures.sought c.in-Some.is in omega arith
 
 pub bounds-tops-r : goal.bounds-tops-r
-bounds-tops-r c = let h = top_below c.requires _ c.look-found.ensures.sought c.in-At.is in omega arith
+bounds-tops-r c = let h = top_below c.requires _ c.look-found.ensures.sought c.in-Some.is in omega arith
 
-pub returns-in-Nothing : goal.returns-in-Nothing
-returns-in-Nothing c = top-none c.requires _ c.look-found.ensures.sought c.in-Nothing.is
+pub returns-in-None : goal.returns-in-None
+returns-in-None c = top-none c.requires _ c.look-found.ensures.sought c.in-None.is
 
-pub returns-in-At : goal.returns-in-At
-returns-in-At c = top-found c.requires _ c.look-found.ensures.sought c.look-found.ensures.same c.in-At.is
+pub returns-in-Some : goal.returns-in-Some
+returns-in-Some c = top-found c.requires _ c.look-found.ensures.sought c.look-found.ensures.same c.in-Some.is

@@ -3,5 +3,5 @@
 use Rattle.topology.proofs.UsedLaws.{look_self, sought-self}
 use Rattle.topology.proofs.used.holder.Goals as goal
 
-pub returns-then-way : goal.returns-then-way
-returns-then-way c = record { sought = sought-self _ _ _ c.requires.1; same = look_self _ c.requires.0 c.if-way.true c.requires.1 }
+pub returns-then-ids : goal.returns-then-ids
+returns-then-ids c = record { sought = sought-self _ _ _ c.requires; same = look_self _ c.args.ids.now.ready c.if-ids.true c.requires }

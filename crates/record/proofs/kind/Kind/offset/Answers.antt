@@ -9,9 +9,6 @@ use Rattle.record.proofs.TableLaws.{everywhere, sane, offset-end}
 use Rattle.record.proofs.PackedLaws.{read}
 use Rattle.record.proofs.kind.Kind.offset.Goals as goal
 
-pub overflow_sub-result : goal.overflow_sub-result
-overflow_sub-result c = omega (arith, sane c.args.self)
-
 pub returns-then-f-lt16 : goal.returns-then-f-lt16
 unfolding everywhere each row offset_at
 returns-then-f-lt16 c = let h = read (λ cs f. offset_in cs f / 16) refl c.args.self c.args.f c.offsets_high.ensures c.if-f-lt16.true in let l = read (λ cs f. offset_in cs f % 16) refl c.args.self c.args.f c.offsets_low.ensures c.if-f-lt16.true in record { value = omega (arith, c.digit.ensures, c.digit-then-f-lt16.ensures); small = omega (arith, c.digit.ensures, c.digit-then-f-lt16.ensures) }

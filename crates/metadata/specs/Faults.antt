@@ -1,0 +1,33 @@
+-- Reasons by their numbers (document 02, W-206), and what a search for the first line that breaks a rule tells.
+-- Assumes nothing.
+use Rattle.std.specs.Prelude.{ℕ, Bool, Result, Ok, Err}
+use Rattle.std.proofs.Math.Option.{Option, none, some}
+use Rattle.laws.specs.Find.{first_index}
+use Rattle.metadata.specs.declared.fault.Reason.{Reason}
+use Rattle.metadata.specs.declared.fault.Reason.TheVariants.{LongLine80, OddLine81, OtherVersion82, OtherList83, OtherKeys84, OtherCount85, OtherSize86}
+use Rattle.metadata.specs.declared.fault.Fault.{Fault}
+
+abbrev pub number_of : Reason → ℕ
+number_of LongLine80 = 80
+number_of OddLine81 = 81
+number_of OtherVersion82 = 82
+number_of OtherList83 = 83
+number_of OtherKeys84 = 84
+number_of OtherCount85 = 85
+number_of OtherSize86 = 86
+
+abbrev pub at_line : Reason → ℕ → Fault
+at_line reason l = record { reason = reason; line = l }
+
+-- THE FIRST LINE that breaks a rule
+abbrev pub fault_at : Reason → Option ℕ → Option Fault
+fault_at reason none = none
+fault_at reason (some line) = some (at_line reason line)
+
+abbrev pub or_right : Option Fault → Result (Unit {0}) Fault
+or_right none = Ok tt
+or_right (some fault) = Err fault
+
+-- and what is told of it, where the test of a line says whether it breaks the rule, and lines are tested below n
+abbrev pub ruled : Reason → (ℕ → Bool) → ℕ → Result (Unit {0}) Fault
+ruled reason breaks n = or_right (fault_at reason (first_index breaks n))
