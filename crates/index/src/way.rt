@@ -1,6 +1,6 @@
 // Exact look-ups: by hints alone, where every key has its place in their table, as it nearly always has; else by halving. Equal keys end at
 // one place of the table, so where each has one, a key that is there is found, and one that isn't found is not there.
-ghost use Rattle.std.specs.Prelude.{◌≡◌, ℕ, ◌≤◌, length};
+ghost use Rattle.std.specs.Prelude.{◌≡◌, ℕ, ◌≤◌, true, length};
 ghost use Rattle.laws.specs.Find.{names};
 ghost use Rattle.index.specs.Keys.{listed, room};
 ghost use Rattle.index.specs.Look.{Sought};
@@ -20,7 +20,7 @@ pub struct Way {
 }
 
 // A way to look up the first `n` keys, with a table of hints and an order in lent room; the order is sorted where hints don't do.
-fn prepare(keys: &[u64], n: usize, hints: &mut [u16], order: &mut [usize]) -> Way
+pub fn prepare(keys: &[u64], n: usize, hints: &mut [u16], order: &mut [usize]) -> Way
     requires { (n ≤ room) × (n ≤ length keys.now) × (n ≤ length order.old) }
     ensures { Ready keys.now order.new hints.new n result }
 {
@@ -65,7 +65,11 @@ impl<'a> Lookup<'a> {
 
     // Of no keys.
     pub fn of_none(keys: &'a [u64], hints: &'a [u16], order: &'a [usize]) -> Self
-        ensures { result.n ≡ 0 }
+        ensures keys { result.keys.now ≡ keys.now }
+        ensures order { result.order.now ≡ order.now }
+        ensures hints { result.hints.now ≡ hints.now }
+        ensures way { (result.way.hinted ≡ true) × (result.way.apart ≡ true) }
+        ensures n { result.n ≡ 0 }
     {
         let way = Way {
             hinted: true,
