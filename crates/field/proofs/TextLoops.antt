@@ -9,8 +9,8 @@ use native.Mathlib.Numerals.{add-one, sub-one}
 use native.Mathlib.Decide.{dec_lt}
 use native.Mathlib.Omega.{arith}
 use lib.Dec.{ltb, eqb}
-use lib.ListN.{length, get_or, take, drop, drop_of_length-le, replicate, length-append, length-replicate, length-drop, get_or-replicate, get_or-append, get_or-eq_default}
-use lib.Seq.{drop-cons, get_or-take, get_or-append-add, length-take-le}
+use lib.ListN.{length, get_or, take, drop, set, drop_of_length-le, replicate, length-append, length-replicate, length-drop, get_or-replicate, get_or-append, get_or-eq_default}
+use lib.Seq.{drop-cons, take-suc, take-suc-set, take_all, get_or-take, get_or-append-add, length-take-le}
 use borrow.Author.Tests.{ltb-true, ltb-false, lt-ltb, le-ltb, eqb-true, eq-eqb, ne_eqb}
 use Rattle.std.proofs.lemmas.List.{get_or-append_right, take_at}
 use Rattle.std.proofs.lemmas.Slice.{take-put_mid}
@@ -76,7 +76,16 @@ padded-at w t s {len} k e f h = go (ltb k len) refl
         padded-in w t k h (rw e l) ∙ f l
     go false q = padded-past w t k h (rw e (ltb-false k len q))
 
--- WRITING: what the text has of its first len bytes, zeros for the others, and blanks, are the padded text,
+-- WRITING: byte by byte, where the invariant is `take k part ≡ take k whole`
+pub bytes-more : (k : ℕ) (p whole : List ℕ) (b : ℕ) → k < length p → k < length whole → b ≡ get_or whole k 0 → take k p ≡ take k whole
+    → take (k + 1) (set p k b) ≡ take (k + 1) whole
+bytes-more k p whole b h g q e =
+    rw (add-one, take-suc-set p k b h, take-suc whole k 0 g, e, q)
+
+pub bytes-end : {k : ℕ} (p whole : List ℕ) → length whole ≡ length p → length p ≤ k → take k p ≡ take k whole → p ≡ whole
+bytes-end {k = k} p whole l h e = sym (take_all k p h) ∙ e ∙ take_all k whole (omega arith)
+
+-- and in parts: what the text has of its first len bytes, zeros for the others, and blanks, are the padded text,
 abbrev pub three_parts : ℕ → List ℕ → ℕ → ℕ → List ℕ
 three_parts w s given there = take there s ++ (replicate (given - there) 0 ++ replicate (w - given) 32)
 

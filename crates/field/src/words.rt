@@ -12,6 +12,17 @@ fn padded_byte(text: &[u8], len: usize, k: usize) -> u8
     if k < len { byte(text, k) } else { 32 }
 }
 
+// Copies as many bytes as there are. (A loop, where the library's `copy_from_slice` becomes a call of memmove: of the C library the archive
+// asks memcpy and memset alone.)
+fn copy_bytes(part: &mut [u8], text: &[u8])
+    requires { length part.old ≡ length text.now }
+    ensures { part.new ≡ text.now }
+{
+    for k in 0..part.len() {
+        part[k] = text[k];
+    }
+}
+
 // Fills the part with the first len bytes of the text, then blanks; a text that is longer is cut. What the slice has of these bytes, the
 // zeros that stand for the others, and the blanks are a write each, of several bytes at a step.
 pub fn put_text(part: &mut [u8], text: &[u8], len: usize)
@@ -19,7 +30,7 @@ pub fn put_text(part: &mut [u8], text: &[u8], len: usize)
 {
     let given = len.min(part.len());
     let there = given.min(text.len());
-    part[..there].copy_from_slice(&text[..there]);
+    copy_bytes(&mut part[..there], &text[..there]);
     part[there..given].fill(0);
     part[given..].fill(32);
 }

@@ -17,7 +17,7 @@ returns c =
     let there = c.min-there.result in
     let e : c.fill.new.self ≡ replicate (given - there) 0 = grind (arith, common_steps, c.fill.ensures.after (λ y q. q)) in
     let f : c.fill-2.new.self ≡ replicate (length p - given) 32 = grind (arith, common_steps, c.fill-2.ensures.after (λ y q. q)) in
-    let parts : c.copy_from_slice.new.self ++ (c.fill.new.self ++ c.fill-2.new.self) ≡ three_parts (length p) a.text.now given there = cc (e, f, c.copy_from_slice.ensures.after) in
-    written-parts p c.copy_from_slice.new.self c.fill.new.self c.fill-2.new.self given there (grind (arith, common_steps)) (grind (arith, common_steps, e)) (omega arith) (omega arith)
+    let parts : c.copy_bytes.new.part ++ (c.fill.new.self ++ c.fill-2.new.self) ≡ three_parts (length p) a.text.now given there = cc (e, f, c.copy_bytes.ensures) in
+    written-parts p c.copy_bytes.new.part c.fill.new.self c.fill-2.new.self given there (grind (arith, common_steps)) (grind (arith, common_steps, e)) (omega arith) (omega arith)
     ∙ parts
     ∙ parts-padded (length p) a.len a.text.now given there (omega arith) (omega arith)
