@@ -1,13 +1,13 @@
--- The laws that the calls' proofs cite: the files that a call has, a reason's number, a number of a kind.
+-- The laws that the calls' proofs cite: the files that a call has, or that it has none, a reason's number, a number of a kind.
 -- Assumes nothing.
 use Prim.Native.Nat.{ℕ, ◌<◌}
 use mathlib.Core.Bool.{true}
-use mathlib.Core.List.{List, []}
-use mathlib.Core.Path.{◌≡◌, refl, sym, fun_ext, ◌∙◌}
+use mathlib.Core.List.{List, [], ◌∷◌, map}
+use mathlib.Core.Path.{◌≡◌, refl, sym, ap, fun_ext, ◌∙◌}
 use native.Mathlib.Omega.{arith}
 use lib.Dec.{ltb}
 use borrow.Author.Tests.{ltb-true}
-use lib.ListN.{get_or}
+use lib.ListN.{length, get_or}
 use Rattle.record.specs.Table.{on_file, file_count}
 use Rattle.laws.specs.Row.{row}
 use Rattle.laws.proofs.RowLaws.{row_at}
@@ -23,12 +23,19 @@ use Rattle.std.specs.Prelude.{Ok, Err}
 use Rattle.record.specs.Files.{files_of}
 use Rattle.record.specs.Breaks.{number_of}
 use Rattle.record.proofs.TableLaws.{sane}
+use Rattle.judge.specs.Verdict.{judged}
+use Rattle.judge.proofs.Cases.{no-files}
 use Rattle.canopyrail.specs.Answers.{answer_number, break_word, finding_word, refusal_word}
 
 -- FILES of a list, as many as there are kinds
 pub lent-files : (all files : List (List ℕ)) → all ≡ row (λ i. get_or files i []) file_count → files_of all ≡ files_of files
 unfolding files_of
 lent-files all files e = fun_ext (λ k. rw e (row_at (λ i. get_or files i []) file_count [] (omega (arith, sane k))))
+
+-- where there is none, nothing is wrong
+pub none_lent : {A : Type 0} (f : A → List ℕ) (l : List A) → length l ≡ 0 → 0 ≡ finding_word (judged (files_of (map f l)))
+none_lent f [] e = sym (ap finding_word no-files)
+none_lent f (x ∷ l) e = absurd (omega arith)
 
 -- A REASON'S NUMBER is not 0, so neither is the answer that tells it
 numbered : (reason : Reason) → ltb 0 (number_of reason) ≡ true

@@ -2,11 +2,11 @@
 -- Assumes nothing.
 use Prim.Native.Nat.{ℕ, ◌+◌, ◌*◌, ◌/◌, ◌%◌, ◌<◌, ◌≤◌}
 use mathlib.Core.Bool.{Bool, true, false, ◌||◌}
-use mathlib.Core.List.{List, ◌++◌}
+use mathlib.Core.List.{List, [], ◌∷◌, ◌++◌, map}
 use mathlib.Core.Path.{◌≡◌, refl, sym, ap, ◌∙◌}
 use native.Mathlib.Omega.{arith}
 use lib.Dec.{eqb}
-use lib.ListN.{length, get_or, drop, get_or-append}
+use lib.ListN.{length, get_or, drop, replicate, get_or-append}
 use borrow.Author.Tests.{lt-ltb, le-ltb, eqb-true, eqb-false}
 use Rattle.laws.proofs.FindLaws.{true-false}
 use Rattle.laws.proofs.RowLaws.{row_at, length-row}
@@ -15,12 +15,15 @@ use Rattle.record.specs.declared.reason.Break.{Break}
 use Rattle.record.specs.Breaks.{Finding}
 use Rattle.std.specs.Prelude.{Ok, Err}
 use Rattle.record.specs.Breaks.{fine}
-use Rattle.record.specs.Files.{Files}
+use Rattle.record.specs.Table.{file_count}
+use Rattle.record.specs.Files.{Files, files_of}
 use Rattle.judge.specs.Broken.{groups}
+use Rattle.judge.proofs.Cases.{no-files}
 use Rattle.grids.specs.Grid.{Grid, grid_of}
 use Rattle.grids.specs.Sum.{cell_at, plus, add_finding, add_of}
 use Rattle.grids.proofs.FillLaws.{Shaped, grid-same, shaped_row, cell_row}
 use Rattle.grids.proofs.GridLaws.{shaped-grid}
+use Rattle.grids.proofs.Meaning.{zero-exactly}
 use Rattle.grids.proofs.SumLaws.{fits-fine, added_is}
 use Rattle.canopyrail.specs.Answers.{break_word, refusal_word, finding_word}
 use Rattle.canopyrail.specs.Cells.{cell_count, lent_cells, grid_in, too_few, Counts, Adds}
@@ -45,6 +48,11 @@ put-held a rest s =
 
 pub grid-held : (files : Files) (rest : List ℕ) → grid_in (lent_cells (grid_of files) ++ rest) ≡ grid_of files
 grid-held files rest = put-held (grid_of files) rest (shaped-grid files)
+
+-- THE GRID OF NO FILES is of zeros
+pub none-grid : {A : Type 0} (f : A → List ℕ) (l : List A) → length l ≡ 0 → replicate file_count (replicate groups 0) ≡ grid_of (files_of (map f l))
+none-grid f [] e = sym ((zero-exactly (files_of [])).0 no-files)
+none-grid f (x ∷ l) e = absurd (omega arith)
 
 -- THE CALLS, by what they found: too few cells,
 few-refused : {r : ℕ} → r ≡ refusal_word ShortRoom61 0 → r ≡ 0 → ⊥

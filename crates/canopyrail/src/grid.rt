@@ -45,6 +45,10 @@ pub fn canopyrail_grid<'a, 'b>(files: &'b [&'a [u8]], cells: &mut [u64]) -> u64
     if cells.len() < CELLS {
         return refusal(Reason::ShortRoom61, 0);
     }
+    if files.is_empty() {
+        put_grid([[0u64; GROUPS]; FILES], cells);
+        return 0;
+    }
     put_grid(grid_of(all_files(files)), cells);
     0
 }
