@@ -25,12 +25,7 @@ const SECOND: &[u8] =
 fn tell<W: Write>(out: &mut W, label: &str, m: &[u8]) -> io::Result<()> {
     match check_metadata(m, &COUNTS, &SIZES) {
         Ok(()) => writeln!(out, "{label} OK"),
-        Err(fault) => writeln!(
-            out,
-            "{label} {:04} {:04}",
-            fault.reason.number(),
-            fault.line
-        ),
+        Err(fault) => writeln!(out, "{label} {:04} {:04}", fault.rule.number(), fault.line),
     }
 }
 

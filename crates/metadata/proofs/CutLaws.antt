@@ -1,8 +1,9 @@
 -- A metadata file cut into lines byte by byte, and what they say put down line by line.
 -- Assumes nothing.
-use Prim.Native.Nat.{ℕ, suc, ◌+◌, ◌-◌, ◌<◌, ◌≤◌}
+use Prim.Native.Nat.{ℕ, suc, ◌+◌, ◌-◌, ◌*◌, ◌<◌, ◌≤◌}
 use mathlib.Core.Bool.{Bool, true, false, ◌&&◌, or-true}
 use mathlib.Core.List.{List, [], ◌∷◌, ◌++◌, map, append_assoc, append-nil}
+use mathlib.Core.Logic.{◌⊎◌, inl, inr}
 use mathlib.Core.Path.{◌≡◌, refl, sym, ap, ◌∙◌}
 use native.Mathlib.Nat.{not-suc-le-zero}
 use native.Mathlib.Numerals.{add-one}
@@ -17,7 +18,7 @@ use Rattle.laws.specs.Row.{pick}
 use Rattle.laws.proofs.RowLaws.{and-true}
 use Rattle.metadata.specs.declared.told.Told.{Told}
 use Rattle.metadata.specs.declared.told.Told.TheVariants.{Nothing}
-use Rattle.metadata.specs.declared.fault.Reason.TheVariants.{LongLine80}
+use Rattle.metadata.specs.declared.fault.Rule.TheVariants.{LongLine80}
 use Rattle.metadata.specs.declared.fault.Fault.{Fault}
 use Rattle.metadata.specs.Faults.{at_line}
 use Rattle.metadata.specs.Told.{told_of}
@@ -78,13 +79,23 @@ counted : (n : ℕ) (x : Line) (ls : List Line) → n < most_lines → length x.
 unfolding cut_from
 counted n x ls h l = rw (lt-leb most_lines n h, le-ltb longest (length x.bytes) l)
 
--- CUTTING: n lines are cut, and of the next one the bytes between from and i are passed
+-- room for each line of m: there is none past the most, and none begins before the marks of those in front of it
+abbrev pub Room : List ℕ → List Told → Type 0
+Room m lines = (most_lines ≤ length lines) ⊎ (length m < 2 * length lines)
+
+room-for : (m : List ℕ) (lines : List Told) (n : ℕ) → Room m lines → n < most_lines → 2 * n < length m → n < length lines
+room-for m lines n (inl h) few l = omega arith
+room-for m lines n (inr h) few l = omega arith
+
+-- CUTTING: n lines are cut, each with its mark of two bytes, and of the next one the bytes between from and i are passed
 pub record Cutting (m : List ℕ) (lines : List Told) (n from i : ℕ) : Type 0 where
   pub start : from ≤ i
   pub within : i ≤ length m
   pub short : i - from ≤ longest
   pub few : n ≤ most_lines
-  pub room : most_lines ≤ length lines
+  pub marks : 2 * n ≤ from
+  pub room : Room m lines
+  pub held : n ≤ length lines
   pub cut : cut_from n (lines_from (drop i m) false (between m from i)) ≡ cut_of m
   pub told : take n lines ++ map line_told (lines_from (drop i m) false (between m from i)) ≡ told_in m
 
@@ -118,7 +129,9 @@ module _ {m : List ℕ} {lines : List Told} {n from i : ℕ} (c : Cutting m line
             within = omega arith;
             short = omega (arith, c.start);
             few = c.few;
+            marks = c.marks;
             room = c.room;
+            held = c.held;
             cut = sym (ap (cut_from n) passed) ∙ c.cut;
             told = ap (λ (ls : List Line). take n lines ++ map line_told ls) (sym passed) ∙ c.told;
           }
@@ -149,13 +162,15 @@ module _ {m : List ℕ} {lines : List Told} {n from i : ℕ} (c : Cutting m line
           let w = between-long m from i c.start (omega arith) in
           let x : Line = record { bytes = between m from i; ended = true } in
           let ls = lines_from (drop (i + 2) m) false (between m (i + 2) (i + 2)) in
-          let r = c.room in
+          let r = room-for m lines n c.room few (omega (arith, c.marks, c.start)) in
           record {
             start = omega arith;
             within = omega (arith, mark-whole);
             short = omega arith;
             few = omega arith;
-            room = simp length-set r;
+            marks = omega (arith, c.marks, c.start);
+            room = simp length-set c.room;
+            held = simp length-set (omega arith);
             cut = sym (counted n x ls few (rw w c.short)) ∙ sym (ap (cut_from n) ended) ∙ c.cut;
             told = put-more lines n x ls (omega arith) e (ap (λ (y : List Line). take n lines ++ map line_told y) (sym ended) ∙ c.told);
           }
@@ -200,8 +215,16 @@ module _ {m : List ℕ} {lines : List Told} {n from i : ℕ} (c : Cutting m line
           let x : Line = record { bytes = between m from i; ended = false } in
           sym (counted n x [] few (rw (between-long m from i c.start c.within) c.short)) ∙ sym (ap (cut_from n) one_left) ∙ c.cut
 
+      last-room : n < most_lines → n < length lines
+      last-room few = room-for m lines n c.room few (omega (arith, c.marks))
+
+      pub last-held : n < most_lines → n + 1 ≤ length (set lines n Nothing)
+      last-held few =
+          let r = last-room few in
+          simp length-set (omega arith)
+
       pub last-told : n < most_lines → take (n + 1) (set lines n Nothing) ≡ told_in m
       last-told few =
-          let r = c.room in
+          let r = last-room few in
           sym (append-nil (take (n + 1) (set lines n Nothing)))
           ∙ put-more lines n (record { bytes = between m from i; ended = false }) [] (omega arith) refl (ap (λ (ls : List Line). take n lines ++ map line_told ls) (sym one_left) ∙ c.told)

@@ -1,5 +1,5 @@
--- The answer is exact: nothing is wrong and no test of any line holds, or the test of its reason holds at its line and none does that
--- comes before it, by reason and then by line.
+-- The answer is exact: nothing is wrong and no test of any line holds, or the test of its rule holds at its line and none does that
+-- comes before it, by rule and then by line.
 -- Assumes nothing.
 use Prim.Native.Nat.{ℕ, zero, suc, ◌+◌, ◌<◌}
 use mathlib.Core.Bool.{Bool, true, false, ◌||◌}
@@ -16,12 +16,12 @@ use Rattle.laws.specs.Row.{pick}
 use Rattle.laws.specs.Find.{first_of, first_index}
 use Rattle.laws.proofs.FindLaws.{some-none, none-at, some_at, index-none-at, index-some-at}
 use Rattle.metadata.specs.declared.told.Told.{Told}
-use Rattle.metadata.specs.declared.fault.Reason.{Reason}
-use Rattle.metadata.specs.declared.fault.Reason.TheVariants.{LongLine80}
+use Rattle.metadata.specs.declared.fault.Rule.{Rule}
+use Rattle.metadata.specs.declared.fault.Rule.TheVariants.{LongLine80}
 use Rattle.metadata.specs.declared.fault.Fault.{Fault}
 use Rattle.metadata.specs.Lines.{Line, lines_of, most_lines, longest, cut_from, cut_of, told_in}
 use Rattle.metadata.specs.Faults.{number_of, at_line, fault_at, or_right}
-use Rattle.metadata.specs.Rules.{breaks, reason_of, told_fault, cut_fault, fault_of}
+use Rattle.metadata.specs.Rules.{breaks, rule_of, told_fault, cut_fault, fault_of}
 use Rattle.metadata.proofs.CutLaws.{Long}
 use Rattle.metadata.proofs.RuleLaws.{fault_by}
 
@@ -42,7 +42,7 @@ pub record Reached (n : ℕ) (ls : List Line) (l i : ℕ) : Type 0 where
   pub broken : breaks80 n ls i ≡ true
   pub before : (j : ℕ) → j < i → breaks80 n ls j ≡ false
 
-pub cut-long : (n : ℕ) (ls : List Line) (fault : Fault) → cut_from n ls ≡ Err fault → (fault.reason ≡ LongLine80) × ((i : ℕ) × Reached n ls fault.line i)
+pub cut-long : (n : ℕ) (ls : List Line) (fault : Fault) → cut_from n ls ≡ Err fault → (fault.rule ≡ LongLine80) × ((i : ℕ) × Reached n ls fault.line i)
 unfolding cut_from
 cut-long n [] fault e = cc
 cut-long n (x ∷ ls) fault e = go (leb most_lines (n + 0) || ltb longest (length x.bytes)) refl (rw (← zero_more) at e) (cut-long (n + 1) ls fault)
@@ -52,11 +52,11 @@ cut-long n (x ∷ ls) fault e = go (leb most_lines (n + 0) || ltb longest (lengt
 
     go :
         (b : Bool) → (leb most_lines (n + 0) || ltb longest (length x.bytes)) ≡ b → pick b (Long (n + 0)) (cut_from (n + 0 + 1) ls) ≡ Err fault
-        → (cut_from (n + 1) ls ≡ Err fault → (fault.reason ≡ LongLine80) × ((i : ℕ) × Reached (n + 1) ls fault.line i))
-        → (fault.reason ≡ LongLine80) × ((i : ℕ) × Reached n (x ∷ ls) fault.line i)
+        → (cut_from (n + 1) ls ≡ Err fault → (fault.rule ≡ LongLine80) × ((i : ℕ) × Reached (n + 1) ls fault.line i))
+        → (fault.rule ≡ LongLine80) × ((i : ℕ) × Reached n (x ∷ ls) fault.line i)
     go true q h later =
         let same : fault ≡ at_line LongLine80 (n + 0 + 1) = cc in
-        (ap (λ (f : Fault). f.reason) same, (0, record { place = ap (λ (f : Fault). f.line) same; there = omega arith; broken = q; before = λ j m. absurd (not-suc-le-zero m) }))
+        (ap (λ (f : Fault). f.rule) same, (0, record { place = ap (λ (f : Fault). f.line) same; there = omega arith; broken = q; before = λ j m. absurd (not-suc-le-zero m) }))
     go false q h later =
         let r = later (rw zero_more at h) in
         let i = r.1.0 in
@@ -94,15 +94,15 @@ cut-lines n (x ∷ ls) k e j m = go (leb most_lines (n + 0) || ltb longest (leng
     go false q h later (suc j) m = sym (later-80 n x ls j) ∙ later (rw zero_more at h) j (omega arith)
 
 -- FAULTS: no search gives a line
-fault-index-none : (reason : Reason) (o : Option ℕ) → fault_at reason o ≡ none → o ≡ none
-fault-index-none reason none e = refl
-fault-index-none reason (some l) e = absurd (some-none e)
+fault-index-none : (rule : Rule) (o : Option ℕ) → fault_at rule o ≡ none → o ≡ none
+fault-index-none rule none e = refl
+fault-index-none rule (some l) e = absurd (some-none e)
 
-fault-index-some : (reason : Reason) (o : Option ℕ) {fault : Fault} → fault_at reason o ≡ some fault → (fault.reason ≡ reason) × (o ≡ some fault.line)
-fault-index-some reason none e = absurd (some-none (sym e))
-fault-index-some reason (some k) {fault} e = let q : at_line reason k ≡ fault = cc in rw (← q) (refl, refl)
+fault-index-some : (rule : Rule) (o : Option ℕ) {fault : Fault} → fault_at rule o ≡ some fault → (fault.rule ≡ rule) × (o ≡ some fault.line)
+fault-index-some rule none e = absurd (some-none (sym e))
+fault-index-some rule (some k) {fault} e = let q : at_line rule k ≡ fault = cc in rw (← q) (refl, refl)
 
-number_at : (k : ℕ) → k < 6 → number_of (reason_of k) ≡ 81 + k
+number_at : (k : ℕ) → k < 6 → number_of (rule_of k) ≡ 81 + k
 number_at zero l = refl
 number_at (suc zero) l = refl
 number_at (suc (suc zero)) l = refl
@@ -124,7 +124,7 @@ module _ (counts sizes : List ℕ) (ts : List Told) where
     pub lines : (l' : ℕ) → l' < l → breaks counts sizes ts k l' ≡ false
 
   cleared : (n : ℕ) → first_of (fault_by counts sizes ts) n ≡ none → (k l : ℕ) → k < n → l < length ts + 1 → breaks counts sizes ts k l ≡ false
-  cleared n h k l a b = index-none-at (breaks counts sizes ts k) (length ts + 1) (fault-index-none (reason_of k) _ (none-at (fault_by counts sizes ts) n h a)) b
+  cleared n h k l a b = index-none-at (breaks counts sizes ts k) (length ts + 1) (fault-index-none (rule_of k) _ (none-at (fault_by counts sizes ts) n h a)) b
 
   pub told-right : told_fault counts sizes ts ≡ Ok tt → Clean
   unfolding told_fault
@@ -134,7 +134,7 @@ module _ (counts sizes : List ℕ) (ts : List Told) where
       go none q h = cleared 6 q
       go (some fault) q h = cc
 
-  pub told_at : (r : Reason) (l : ℕ) → told_fault counts sizes ts ≡ Err (at_line r l) → (k : ℕ) × (number_of r ≡ 81 + k) × First k l
+  pub told_at : (r : Rule) (l : ℕ) → told_fault counts sizes ts ≡ Err (at_line r l) → (k : ℕ) × (number_of r ≡ 81 + k) × First k l
   unfolding told_fault
   told_at r l e = go (first_of (fault_by counts sizes ts) 6) refl e
     where
@@ -143,7 +143,7 @@ module _ (counts sizes : List ℕ) (ts : List Told) where
       go (some fault) q h =
           let same : fault ≡ at_line r l = cc in
           let s = some_at (fault_by counts sizes ts) 6 (q ∙ ap some same) in
-          let f = fault-index-some (reason_of s.0) (first_index (breaks counts sizes ts s.0) (length ts + 1)) s.2 in
+          let f = fault-index-some (rule_of s.0) (first_index (breaks counts sizes ts s.0) (length ts + 1)) s.2 in
           let i = index-some-at (breaks counts sizes ts s.0) (length ts + 1) f.1 in
           (s.0, ap number_of f.0 ∙ number_at s.0 s.1, record { rule = s.1; line = i.0; broken = i.1; rules = cleared s.0 s.3; lines = i.2 })
 
@@ -161,7 +161,7 @@ right-exact m counts sizes e = go (cut_of m) refl e
 
 -- or what is told is the first: of 80, or else, with no line too long, of 81 to 86
 pub at_exact :
-    (m counts sizes : List ℕ) (r : Reason) (l : ℕ) → fault_of m counts sizes ≡ Err (at_line r l)
+    (m counts sizes : List ℕ) (r : Rule) (l : ℕ) → fault_of m counts sizes ≡ Err (at_line r l)
     → ((number_of r ≡ 80) × ((i : ℕ) × Reached 0 (lines_of m) l i))
     ⊎ (((j : ℕ) → j < length (lines_of m) → breaks80 0 (lines_of m) j ≡ false) × ((k : ℕ) × (number_of r ≡ 81 + k) × First counts sizes (told_in m) k l))
 unfolding fault_of
@@ -175,4 +175,4 @@ at_exact m counts sizes r l e = go (cut_of m) refl e
     go (Err fault) q h =
         let same : fault ≡ at_line r l = cc in
         let c = cut-long 0 (lines_of m) fault q in
-        inl (ap (λ (f : Fault). number_of f.reason) (sym same) ∙ ap number_of c.0, rw same at c.1)
+        inl (ap (λ (f : Fault). number_of f.rule) (sym same) ∙ ap number_of c.0, rw same at c.1)

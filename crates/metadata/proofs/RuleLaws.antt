@@ -18,11 +18,11 @@ use Rattle.laws.proofs.FindLaws.{first-start, first_more, first-here, index-here
 use Rattle.metadata.specs.declared.told.File.{File}
 use Rattle.metadata.specs.declared.told.Told.{Told}
 use Rattle.metadata.specs.declared.told.Told.TheVariants.{Nothing, Version, Name}
-use Rattle.metadata.specs.declared.fault.Reason.{Reason}
-use Rattle.metadata.specs.declared.fault.Reason.TheVariants.{OtherVersion82}
+use Rattle.metadata.specs.declared.fault.Rule.{Rule}
+use Rattle.metadata.specs.declared.fault.Rule.TheVariants.{OtherVersion82}
 use Rattle.metadata.specs.declared.fault.Fault.{Fault}
 use Rattle.metadata.specs.Faults.{at_line, fault_at, or_right, ruled}
-use Rattle.metadata.specs.Rules.{is_nothing, is_head, is_version, is_wrong, is_name, file_told, line_at, met, named, breaks81, breaks82, breaks, reason_of, told_fault}
+use Rattle.metadata.specs.Rules.{is_nothing, is_head, is_version, is_wrong, is_name, file_told, line_at, met, named, breaks81, breaks82, breaks, rule_of, told_fault}
 
 -- A SEARCH: no line before l breaks the rule
 abbrev pub Clear : (ℕ → Bool) → ℕ → Type 0
@@ -37,12 +37,12 @@ clear-more p l h e j m = ⊎_elim (λ (q : j ≡ l). rw q e) (λ (k : j < l). h 
     below : j < l + 1 → suc j ≤ suc l
     below m = omega arith
 
-module _ (reason : Reason) (p : ℕ → Bool) (n : ℕ) where
-  pub found : (l : ℕ) → Clear p l → l < n → p l ≡ true → Err (at_line reason l) ≡ ruled reason p n
-  found l h k e = sym (ap (λ (o : Option ℕ). or_right (fault_at reason o)) (index-here p n (index-none p l h) k e))
+module _ (rule : Rule) (p : ℕ → Bool) (n : ℕ) where
+  pub found : (l : ℕ) → Clear p l → l < n → p l ≡ true → Err (at_line rule l) ≡ ruled rule p n
+  found l h k e = sym (ap (λ (o : Option ℕ). or_right (fault_at rule o)) (index-here p n (index-none p l h) k e))
 
-  pub unfound : Clear p n → Ok tt ≡ ruled reason p n
-  unfound h = sym (ap (λ (o : Option ℕ). or_right (fault_at reason o)) (index-none p n h))
+  pub unfound : Clear p n → Ok tt ≡ ruled rule p n
+  unfound h = sym (ap (λ (o : Option ℕ). or_right (fault_at rule o)) (index-none p n h))
 
 -- 81
 module _ (ts : List Told) (i : ℕ) where
@@ -138,23 +138,23 @@ unfolding named
 named_end ts = rw (drop_of_length-le ts (le_refl (length ts)))
 
 -- THE FIRST FAULT: what a search tells
-module _ (reason : Reason) (p : ℕ → Bool) (n : ℕ) where
-  pub ruled-right : ruled reason p n ≡ Ok tt → first_index p n ≡ none
+module _ (rule : Rule) (p : ℕ → Bool) (n : ℕ) where
+  pub ruled-right : ruled rule p n ≡ Ok tt → first_index p n ≡ none
   ruled-right = go (first_index p n)
     where
-      go : (o : Option ℕ) → or_right (fault_at reason o) ≡ Ok tt → o ≡ none
+      go : (o : Option ℕ) → or_right (fault_at rule o) ≡ Ok tt → o ≡ none
       go none e = refl
       go (some l) e = cc
 
-  pub ruled-fault : {fault : Fault} → ruled reason p n ≡ Err fault → fault_at reason (first_index p n) ≡ some fault
+  pub ruled-fault : {fault : Fault} → ruled rule p n ≡ Err fault → fault_at rule (first_index p n) ≡ some fault
   ruled-fault {fault} = go (first_index p n)
     where
-      go : (o : Option ℕ) → or_right (fault_at reason o) ≡ Err fault → fault_at reason o ≡ some fault
+      go : (o : Option ℕ) → or_right (fault_at rule o) ≡ Err fault → fault_at rule o ≡ some fault
       go none e = cc
       go (some l) e = cc
 
 abbrev pub fault_by : List ℕ → List ℕ → List Told → ℕ → Option Fault
-fault_by counts sizes ts k = fault_at (reason_of k) (first_index (breaks counts sizes ts k) (length ts + 1))
+fault_by counts sizes ts k = fault_at (rule_of k) (first_index (breaks counts sizes ts k) (length ts + 1))
 
 module _ (counts sizes : List ℕ) (ts : List Told) where
   -- no rule before 81 + k is broken
@@ -164,18 +164,18 @@ module _ (counts sizes : List ℕ) (ts : List Told) where
   pub kept-start : Kept 0
   kept-start = first-start (fault_by counts sizes ts)
 
-  pub kept-more : (k : ℕ) → Kept k → ruled (reason_of k) (breaks counts sizes ts k) (length ts + 1) ≡ Ok tt → Kept (k + 1)
-  kept-more k h e = first_more (fault_by counts sizes ts) h (ap (fault_at (reason_of k)) (ruled-right (reason_of k) (breaks counts sizes ts k) (length ts + 1) e))
+  pub kept-more : (k : ℕ) → Kept k → ruled (rule_of k) (breaks counts sizes ts k) (length ts + 1) ≡ Ok tt → Kept (k + 1)
+  kept-more k h e = first_more (fault_by counts sizes ts) h (ap (fault_at (rule_of k)) (ruled-right (rule_of k) (breaks counts sizes ts k) (length ts + 1) e))
 
-  pub fault-here : (k : ℕ) {fault : Fault} → Kept k → k < 6 → ruled (reason_of k) (breaks counts sizes ts k) (length ts + 1) ≡ Err fault → Err fault ≡ told_fault counts sizes ts
+  pub fault-here : (k : ℕ) {fault : Fault} → Kept k → k < 6 → ruled (rule_of k) (breaks counts sizes ts k) (length ts + 1) ≡ Err fault → Err fault ≡ told_fault counts sizes ts
   unfolding told_fault
-  fault-here k h l e = sym (ap or_right (first-here (fault_by counts sizes ts) 6 h l (ruled-fault (reason_of k) (breaks counts sizes ts k) (length ts + 1) e)))
+  fault-here k h l e = sym (ap or_right (first-here (fault_by counts sizes ts) 6 h l (ruled-fault (rule_of k) (breaks counts sizes ts k) (length ts + 1) e)))
 
   -- where all but the last are kept, it tells
-  pub fault-last : Kept 5 → ruled (reason_of 5) (breaks counts sizes ts 5) (length ts + 1) ≡ told_fault counts sizes ts
+  pub fault-last : Kept 5 → ruled (rule_of 5) (breaks counts sizes ts 5) (length ts + 1) ≡ told_fault counts sizes ts
   unfolding told_fault
   fault-last h = go (first_index (breaks counts sizes ts 5) (length ts + 1)) refl
     where
-      go : (o : Option ℕ) → first_index (breaks counts sizes ts 5) (length ts + 1) ≡ o → or_right (fault_at (reason_of 5) o) ≡ or_right (first_of (fault_by counts sizes ts) 6)
-      go none e = sym (ap or_right (first_more (fault_by counts sizes ts) h (ap (fault_at (reason_of 5)) e)))
-      go (some l) e = sym (ap or_right (first-here (fault_by counts sizes ts) 6 h (omega arith) (ap (fault_at (reason_of 5)) e)))
+      go : (o : Option ℕ) → first_index (breaks counts sizes ts 5) (length ts + 1) ≡ o → or_right (fault_at (rule_of 5) o) ≡ or_right (first_of (fault_by counts sizes ts) 6)
+      go none e = sym (ap or_right (first_more (fault_by counts sizes ts) h (ap (fault_at (rule_of 5)) e)))
+      go (some l) e = sym (ap or_right (first-here (fault_by counts sizes ts) 6 h (omega arith) (ap (fault_at (rule_of 5)) e)))

@@ -11,14 +11,52 @@ use lib.ListN.{drop}
 use borrow.Author.Tests.{leb-true, le-leb, lt-leb, ne_eqb}
 use Rattle.std.specs.Prelude.{Option, None}
 use Rattle.laws.specs.Find.{any}
-use Rattle.laws.proofs.FindLaws.{any-start, any-more, any-true}
+use Rattle.laws.proofs.FindLaws.{true-false, any-start, any-more, any-true}
 use Rattle.metadata.specs.declared.told.File.{File}
 use Rattle.metadata.specs.declared.told.Told.{Told}
+use Rattle.metadata.specs.declared.told.Told.TheVariants as T
 use Rattle.metadata.specs.declared.told.Key.{Key}
+use Rattle.metadata.specs.declared.told.Key.TheVariants as K
 use Rattle.metadata.specs.declared.sections.Search.{Search}
 use Rattle.metadata.specs.Rules.{is_head, is_file, is_name, is_count, is_size, file_told, line_at, in_file, seen, leads, file_of, named, complete, gives, again, rank_in, of_file, same_file, is_unlisted, file_at, most_files, misplaced, breaks83, breaks84, differs}
 use Rattle.metadata.specs.Searches.{is_key, search_at, past, is_first, is_again}
 use Rattle.metadata.proofs.RuleLaws.{Clear}
+
+-- A SECTION'S LINE is no key's,
+pub head-keys : (t : Told) → is_head t ≡ true → (is_name t ≡ false) × (is_count t ≡ false) × (is_size t ≡ false)
+head-keys T.Section e = (refl, refl, refl)
+head-keys T.Fichero e = (refl, refl, refl)
+head-keys T.Nothing e = absurd (true-false (sym e))
+head-keys T.Empty e = absurd (true-false (sym e))
+head-keys T.Other e = absurd (true-false (sym e))
+head-keys (T.Version one) e = absurd (true-false (sym e))
+head-keys (T.Name file) e = absurd (true-false (sym e))
+head-keys (T.Count n) e = absurd (true-false (sym e))
+head-keys (T.Size n) e = absurd (true-false (sym e))
+
+pub head-figure : (k : Key) (t : Told) → is_head t ≡ true → is_key k t ≡ false
+head-figure K.Name t e = (head-keys t e).0
+head-figure K.Count t e = (head-keys t e).1
+head-figure K.Size t e = (head-keys t e).2
+
+-- and what is no section's line is none of a file's
+pub key-no-file : (t : Told) → is_head t ≡ false → is_file t ≡ false
+key-no-file T.Section e = absurd (true-false e)
+key-no-file T.Fichero e = absurd (true-false e)
+key-no-file T.Nothing e = refl
+key-no-file T.Empty e = refl
+key-no-file T.Other e = refl
+key-no-file (T.Version one) e = refl
+key-no-file (T.Name file) e = refl
+key-no-file (T.Count n) e = refl
+key-no-file (T.Size n) e = refl
+
+-- a line that is not the key's is not its first
+pub no_lead : (p : Told → Bool) (ts : List Told) (i : ℕ) → p (line_at ts i) ≡ false → leads p ts i ≡ false
+no_lead p ts i e = rw e
+
+pub head-lead : (ts : List Told) (i : ℕ) → is_head (line_at ts i) ≡ true → leads is_name ts i ≡ false
+head-lead ts i e = no_lead is_name ts i (head-keys (line_at ts i) e).0
 
 -- A SEARCH FOR A KEY, before line i + 1
 module _ (ts : List Told) (i : ℕ) {k : Key} {s : Search} (q : s ≡ search_at k ts i) where
@@ -90,6 +128,9 @@ clear-differs p numbers ts (suc j) l = absurd (omega arith)
 -- 83: THE FILES, in the list,
 abbrev pub Lists : List Told → File → ℕ → Bool
 Lists ts f j = leads is_name ts j && same_file (file_told (line_at ts j)) f
+
+pub head-lists : (ts : List Told) (f : File) (i : ℕ) → is_head (line_at ts i) ≡ true → Lists ts f i ≡ false
+head-lists ts f i e = rw (no_lead is_name ts i (head-keys (line_at ts i) e).0)
 
 -- in their order
 abbrev pub Above : List Told → ℕ → ℕ → Bool

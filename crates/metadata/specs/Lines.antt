@@ -5,7 +5,7 @@ use Rattle.std.specs.Prelude.{ℕ, ◌+◌, Bool, true, false, ◌&&◌, ◌||�
 use Rattle.laws.specs.Row.{pick}
 use Rattle.metadata.specs.declared.told.Told.{Told}
 use Rattle.metadata.specs.declared.told.Told.TheVariants.{Nothing}
-use Rattle.metadata.specs.declared.fault.Reason.TheVariants.{LongLine80}
+use Rattle.metadata.specs.declared.fault.Rule.TheVariants.{LongLine80}
 use Rattle.metadata.specs.declared.fault.Fault.{Fault}
 use Rattle.metadata.specs.Told.{told_of}
 use Rattle.metadata.specs.Faults.{at_line}

@@ -8,8 +8,8 @@ use Rattle.metadata.specs.declared.told.File.{File}
 use Rattle.metadata.specs.declared.told.File.TheVariants.{Catalogo1, ObPun2, ObTex3, ObLin4, Tramo5, Vertice6, Nodo7, ObComp8}
 use Rattle.metadata.specs.declared.told.Told.{Told}
 use Rattle.metadata.specs.declared.told.Told.TheVariants.{Nothing, Section, Fichero, Version, Name, Count, Size}
-use Rattle.metadata.specs.declared.fault.Reason.{Reason}
-use Rattle.metadata.specs.declared.fault.Reason.TheVariants.{OddLine81, OtherVersion82, OtherList83, OtherKeys84, OtherCount85, OtherSize86}
+use Rattle.metadata.specs.declared.fault.Rule.{Rule}
+use Rattle.metadata.specs.declared.fault.Rule.TheVariants.{OddLine81, OtherVersion82, OtherList83, OtherKeys84, OtherCount85, OtherSize86}
 use Rattle.metadata.specs.declared.fault.Fault.{Fault}
 use Rattle.metadata.specs.Faults.{fault_at, or_right}
 use Rattle.metadata.specs.Lines.{cut_of, told_in}
@@ -191,7 +191,7 @@ breaks85 counts = differs is_count counts
 abbrev pub breaks86 : List ℕ → List Told → ℕ → Bool
 breaks86 sizes = differs is_size sizes
 
--- THE FIRST, by reason and line
+-- THE FIRST, by rule and line
 abbrev pub breaks : List ℕ → List ℕ → List Told → ℕ → ℕ → Bool
 breaks counts sizes ts zero = breaks81 ts
 breaks counts sizes ts (suc zero) = breaks82 ts
@@ -200,16 +200,16 @@ breaks counts sizes ts (suc (suc (suc zero))) = breaks84 ts
 breaks counts sizes ts (suc (suc (suc (suc zero)))) = breaks85 counts ts
 breaks counts sizes ts (suc (suc (suc (suc (suc k))))) = breaks86 sizes ts
 
-abbrev pub reason_of : ℕ → Reason
-reason_of zero = OddLine81
-reason_of (suc zero) = OtherVersion82
-reason_of (suc (suc zero)) = OtherList83
-reason_of (suc (suc (suc zero))) = OtherKeys84
-reason_of (suc (suc (suc (suc zero)))) = OtherCount85
-reason_of (suc (suc (suc (suc (suc k))))) = OtherSize86
+abbrev pub rule_of : ℕ → Rule
+rule_of zero = OddLine81
+rule_of (suc zero) = OtherVersion82
+rule_of (suc (suc zero)) = OtherList83
+rule_of (suc (suc (suc zero))) = OtherKeys84
+rule_of (suc (suc (suc (suc zero)))) = OtherCount85
+rule_of (suc (suc (suc (suc (suc k))))) = OtherSize86
 
 unfoldable pub told_fault : List ℕ → List ℕ → List Told → Result (Unit {0}) Fault
-told_fault counts sizes ts = or_right (first_of (λ k. fault_at (reason_of k) (first_index (breaks counts sizes ts k) (length ts + 1))) 6)
+told_fault counts sizes ts = or_right (first_of (λ k. fault_at (rule_of k) (first_index (breaks counts sizes ts k) (length ts + 1))) 6)
 
 abbrev pub cut_fault : List ℕ → List ℕ → List Told → Result ℕ Fault → Result (Unit {0}) Fault
 cut_fault counts sizes ts (Ok n) = told_fault counts sizes ts

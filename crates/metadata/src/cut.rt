@@ -1,13 +1,16 @@
 // A metadata file cut into lines, and what they say.
-ghost use Rattle.std.specs.Prelude.{◌≡◌, ◌&&◌, ◌+◌, ◌<◌, ◌≤◌, eqb, length, get_or, take, IfOk};
+ghost use Rattle.std.specs.Prelude.{◌≡◌, ◌&&◌, ◌+◌, ◌*◌, ◌<◌, ◌≤◌, ◌⊎◌, eqb, length, get_or, take, IfOk};
 ghost use Rattle.metadata.specs.Lines.{cut_of, most_lines, told_in};
 
-use crate::fault::{Fault, Reason};
+use crate::fault::{Fault, Rule};
 use crate::line::told_of;
 use crate::told::Told;
 use field::class::byte;
 
 pub(crate) const MOST_LINES: usize = 2048;
+
+// A file of fewer than twice as many bytes has no more lines, since an end mark is two bytes.
+pub(crate) const FEW_LINES: usize = 512;
 
 const LONGEST: usize = 256;
 
@@ -21,9 +24,10 @@ fn is_mark(m: &[u8], i: usize) -> bool
 
 // Cuts the bytes into lines and fills the room with what they say, unless a line is too long or past the most. It counts the lines.
 pub(crate) fn cut_lines(m: &[u8], lines: &mut [Told]) -> Result<usize, Fault>
-    requires { most_lines ≤ length lines.old }
+    requires { (most_lines ≤ length lines.old) ⊎ (length m.now < 2 * length lines.old) }
     ensures cut { result ≡ cut_of m.now }
     ensures few { IfOk result (λ n. n ≤ most_lines) }
+    ensures held { IfOk result (λ n. n ≤ length lines.new) }
     ensures told { IfOk result (λ n. take n lines.new ≡ told_in m.now) }
 {
     let mut n = 0;
@@ -32,7 +36,7 @@ pub(crate) fn cut_lines(m: &[u8], lines: &mut [Told]) -> Result<usize, Fault>
     // No `for`: an end mark is two bytes, so that i goes on by one or by two.
     while i < m.len() {
         if n == MOST_LINES {
-            return Err(Reason::LongLine80.at(n + 1));
+            return Err(Rule::LongLine80.at(n + 1));
         }
         if is_mark(m, i) {
             lines[n] = told_of(&m[from..i]);
@@ -41,14 +45,14 @@ pub(crate) fn cut_lines(m: &[u8], lines: &mut [Told]) -> Result<usize, Fault>
             from = i;
         } else {
             if LONGEST <= i - from {
-                return Err(Reason::LongLine80.at(n + 1));
+                return Err(Rule::LongLine80.at(n + 1));
             }
             i += 1;
         }
     }
     if from < m.len() {
         if n == MOST_LINES {
-            return Err(Reason::LongLine80.at(n + 1));
+            return Err(Rule::LongLine80.at(n + 1));
         }
         lines[n] = Told::Nothing;
         n += 1;

@@ -2,9 +2,10 @@
 ghost use Rattle.std.specs.Prelude.{◌≡◌};
 ghost use Rattle.metadata.specs.Faults.{number_of, at_line};
 
-// The reasons of document 02 for a metadata file, each with its number in its name.
+// The rules for a metadata file, each with the number of its reason in its name. (The reasons themselves are one enum, record's; this crate
+// stands on laws and field alone.)
 #[derive(Clone, Copy, Debug, PartialEq, Eq)]
-pub enum Reason {
+pub enum Rule {
     // A line is past the 2,048th, or longer than 256 bytes.
     LongLine80,
     // A line is neither section, key line nor empty line, or the last has no end mark.
@@ -21,19 +22,19 @@ pub enum Reason {
     OtherSize86,
 }
 
-impl Reason {
-    // Document 02's number.
+impl Rule {
+    // The number of the reason that a break of the rule is told by.
     pub fn number(self) -> u8
         ensures { result ≡ number_of self }
     {
         match self {
-            Reason::LongLine80 => 80,
-            Reason::OddLine81 => 81,
-            Reason::OtherVersion82 => 82,
-            Reason::OtherList83 => 83,
-            Reason::OtherKeys84 => 84,
-            Reason::OtherCount85 => 85,
-            Reason::OtherSize86 => 86,
+            Rule::LongLine80 => 80,
+            Rule::OddLine81 => 81,
+            Rule::OtherVersion82 => 82,
+            Rule::OtherList83 => 83,
+            Rule::OtherKeys84 => 84,
+            Rule::OtherCount85 => 85,
+            Rule::OtherSize86 => 86,
         }
     }
 
@@ -41,13 +42,13 @@ impl Reason {
     pub(crate) fn at(self, line: usize) -> Fault
         ensures { result ≡ at_line self line }
     {
-        Fault { reason: self, line }
+        Fault { rule: self, line }
     }
 }
 
-// A reason and its line, counted from 1; line 0 is the file as a whole, which is how document 02 tells it.
+// The rule that is broken, and the line, counted from 1; line 0 is the file as a whole, which is how document 02 tells it.
 #[derive(Clone, Copy, Debug, PartialEq, Eq)]
 pub struct Fault {
-    pub reason: Reason,
+    pub rule: Rule,
     pub line: usize,
 }

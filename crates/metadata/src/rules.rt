@@ -4,29 +4,29 @@ ghost use Rattle.metadata.specs.Faults.{ruled};
 ghost use Rattle.metadata.specs.Rules.{of_file, listed, breaks81, breaks82, breaks83, breaks84, differs, told_fault};
 ghost use Rattle.metadata.specs.Searches.{is_key};
 
-use crate::fault::{Fault, Reason};
+use crate::fault::{Fault, Rule};
 use crate::sections::{Search, is_complete, named_in};
 use crate::told::{FILES, File, Key, Told};
 
 fn check_81(lines: &[Told]) -> Result<(), Fault>
-    ensures { result ≡ ruled Reason.OddLine81 (breaks81 lines.now) (length lines.now + 1) }
+    ensures { result ≡ ruled Rule.OddLine81 (breaks81 lines.now) (length lines.now + 1) }
 {
     for (i, t) in lines.iter().enumerate() {
         if t.is_nothing() {
-            return Err(Reason::OddLine81.at(i + 1));
+            return Err(Rule::OddLine81.at(i + 1));
         }
     }
     Ok(())
 }
 
 fn check_82(lines: &[Told]) -> Result<(), Fault>
-    ensures { result ≡ ruled Reason.OtherVersion82 (breaks82 lines.now) (length lines.now + 1) }
+    ensures { result ≡ ruled Rule.OtherVersion82 (breaks82 lines.now) (length lines.now + 1) }
 {
     let mut some = false;
     for (i, t) in lines.iter().enumerate() {
         if let Told::Version(one) = *t {
             if !one {
-                return Err(Reason::OtherVersion82.at(i + 1));
+                return Err(Rule::OtherVersion82.at(i + 1));
             }
             some = true;
         }
@@ -34,7 +34,7 @@ fn check_82(lines: &[Told]) -> Result<(), Fault>
     if some {
         Ok(())
     } else {
-        Err(Reason::OtherVersion82.at(0))
+        Err(Rule::OtherVersion82.at(0))
     }
 }
 
@@ -75,21 +75,21 @@ fn is_one_unlisted(lines: &[Told], counts: &[u64]) -> bool
 }
 
 fn check_83(lines: &[Told], counts: &[u64]) -> Result<(), Fault>
-    ensures { result ≡ ruled Reason.OtherList83 (breaks83 counts.now lines.now) (length lines.now + 1) }
+    ensures { result ≡ ruled Rule.OtherList83 (breaks83 counts.now lines.now) (length lines.now + 1) }
 {
     if is_one_unlisted(lines, counts) {
-        return Err(Reason::OtherList83.at(0));
+        return Err(Rule::OtherList83.at(0));
     }
     let mut names = Search::of(Key::Name);
     let mut top = 0;
     for (i, t) in lines.iter().enumerate() {
         if names.is_first(*t) {
             let Some(file) = t.file() else {
-                return Err(Reason::OtherList83.at(i + 1));
+                return Err(Rule::OtherList83.at(i + 1));
             };
             let rank = file.rank();
             if rank <= top {
-                return Err(Reason::OtherList83.at(i + 1));
+                return Err(Rule::OtherList83.at(i + 1));
             }
             top = rank;
         }
@@ -99,17 +99,17 @@ fn check_83(lines: &[Told], counts: &[u64]) -> Result<(), Fault>
 }
 
 fn check_84(lines: &[Told]) -> Result<(), Fault>
-    ensures { result ≡ ruled Reason.OtherKeys84 (breaks84 lines.now) (length lines.now + 1) }
+    ensures { result ≡ ruled Rule.OtherKeys84 (breaks84 lines.now) (length lines.now + 1) }
 {
     let mut names = Search::of(Key::Name);
     let mut counts = Search::of(Key::Count);
     let mut sizes = Search::of(Key::Size);
     for (i, t) in lines.iter().enumerate() {
         if t.is_file() && !is_complete(&lines[i + 1..]) {
-            return Err(Reason::OtherKeys84.at(i + 1));
+            return Err(Rule::OtherKeys84.at(i + 1));
         }
         if names.is_again(*t) | counts.is_again(*t) | sizes.is_again(*t) {
-            return Err(Reason::OtherKeys84.at(i + 1));
+            return Err(Rule::OtherKeys84.at(i + 1));
         }
         names = names.past(*t);
         counts = counts.past(*t);
@@ -119,14 +119,14 @@ fn check_84(lines: &[Told]) -> Result<(), Fault>
 }
 
 // 85 and 86: the first count, or size, of a section that differs from its file's number.
-fn check_numbers(lines: &[Told], key: Key, numbers: &[u64], reason: Reason) -> Result<(), Fault>
-    ensures { result ≡ ruled reason (differs (is_key key) numbers.now lines.now) (length lines.now + 1) }
+fn check_numbers(lines: &[Told], key: Key, numbers: &[u64], rule: Rule) -> Result<(), Fault>
+    ensures { result ≡ ruled rule (differs (is_key key) numbers.now lines.now) (length lines.now + 1) }
 {
     let mut search = Search::of(key);
     let mut file = None;
     for (i, t) in lines.iter().enumerate() {
         if search.is_first(*t) & !t.gives(of_file(numbers, file)) {
-            return Err(reason.at(i + 1));
+            return Err(rule.at(i + 1));
         }
         if t.is_head() {
             file = named_in(&lines[i + 1..]);
@@ -136,7 +136,7 @@ fn check_numbers(lines: &[Told], key: Key, numbers: &[u64], reason: Reason) -> R
     Ok(())
 }
 
-// The first fault of 81 to 86, by reason and line.
+// The first fault of 81 to 86, by rule and line.
 pub(crate) fn check_lines(lines: &[Told], counts: &[u64], sizes: &[u64]) -> Result<(), Fault>
     ensures { result ≡ told_fault counts.now sizes.now lines.now }
 {
@@ -144,6 +144,6 @@ pub(crate) fn check_lines(lines: &[Told], counts: &[u64], sizes: &[u64]) -> Resu
     check_82(lines)?;
     check_83(lines, counts)?;
     check_84(lines)?;
-    check_numbers(lines, Key::Count, counts, Reason::OtherCount85)?;
-    check_numbers(lines, Key::Size, sizes, Reason::OtherSize86)
+    check_numbers(lines, Key::Count, counts, Rule::OtherCount85)?;
+    check_numbers(lines, Key::Size, sizes, Rule::OtherSize86)
 }

@@ -3,7 +3,7 @@
 use mathlib.Core.Path.{sym, ap, ◌∙◌}
 use native.Mathlib.Omega.{arith}
 use Rattle.std.specs.Prelude.{Err}
-use Rattle.metadata.proofs.CutLaws.{most-past, line-long, cutting-byte, cutting-line, all-cut, all-told, last-past, last-cut, last-told}
+use Rattle.metadata.proofs.CutLaws.{most-past, line-long, cutting-byte, cutting-line, all-cut, all-told, last-past, last-cut, last-held, last-told}
 use Rattle.metadata.proofs.cut.cut_lines.Goals as goal
 
 pub returns-then-n-eq-MOST_LINES-clause-cut : goal.returns-then-n-eq-MOST_LINES-clause-cut
@@ -31,6 +31,7 @@ returns-else-n-eq-MOST_LINES-2 c =
     record {
       cut = last-cut l (omega arith) c.if-from-m.true (omega (arith, c.if-n-eq-MOST_LINES-2.false));
       few = omega (arith, c.if-n-eq-MOST_LINES-2.false);
+      held = last-held l (omega arith) c.if-from-m.true (omega (arith, c.if-n-eq-MOST_LINES-2.false));
       told = last-told l (omega arith) c.if-from-m.true (omega (arith, c.if-n-eq-MOST_LINES-2.false));
     }
 
@@ -40,5 +41,6 @@ returns-else-from-m c =
     record {
       cut = all-cut l (omega arith) (omega (arith, c.if-from-m.false));
       few = l.few;
+      held = l.held;
       told = all-told l (omega arith) (omega (arith, c.if-from-m.false));
     }

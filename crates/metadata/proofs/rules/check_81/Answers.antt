@@ -5,7 +5,7 @@ use mathlib.Core.Path.{◌≡◌, sym, ap, ◌∙◌}
 use native.Mathlib.Omega.{arith}
 use lib.ListN.{length}
 use Rattle.std.specs.Prelude.{Err}
-use Rattle.metadata.specs.declared.fault.Reason.TheVariants.{OddLine81}
+use Rattle.metadata.specs.declared.fault.Rule.TheVariants.{OddLine81}
 use Rattle.metadata.specs.Rules.{breaks81}
 use Rattle.metadata.proofs.RuleLaws.{clear-81, clear-more, found, unfound, is-81}
 use Rattle.metadata.proofs.rules.check_81.Goals as goal

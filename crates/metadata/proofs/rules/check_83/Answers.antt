@@ -5,7 +5,7 @@ use mathlib.Core.Path.{◌≡◌, sym, ap, ◌∙◌}
 use native.Mathlib.Omega.{arith}
 use lib.ListN.{length}
 use Rattle.std.specs.Prelude.{Err, None}
-use Rattle.metadata.specs.declared.fault.Reason.TheVariants.{OtherList83}
+use Rattle.metadata.specs.declared.fault.Rule.TheVariants.{OtherList83}
 use Rattle.metadata.specs.Rules.{breaks83, rank_in}
 use Rattle.metadata.proofs.RuleLaws.{clear-start, clear-more, found, unfound}
 use Rattle.metadata.proofs.SectionLaws.{search-past, leads-is, top_start, top-stays, top-rises, no-83, misplaced-83, placed-83, clear-83}

@@ -6,7 +6,7 @@ use mathlib.Core.Path.{◌≡◌, sym, ap, ap₂, ◌∙◌}
 use native.Mathlib.Omega.{arith}
 use lib.ListN.{length, drop}
 use Rattle.std.specs.Prelude.{Err}
-use Rattle.metadata.specs.declared.fault.Reason.TheVariants.{OtherKeys84}
+use Rattle.metadata.specs.declared.fault.Rule.TheVariants.{OtherKeys84}
 use Rattle.metadata.specs.Rules.{complete, is_file, line_at, breaks84}
 use Rattle.metadata.proofs.LineLaws.{rest-is}
 use Rattle.metadata.proofs.RuleLaws.{clear-more, found, unfound}

@@ -22,7 +22,7 @@ returns-then-is_first-gives c =
     let ts = c.args.lines.now in
     let p = is_key c.args.key in
     let e = is-differing p c.args.numbers.now ts l.i (leads-is ts l.i l.invariant.1 c.is_first.ensures) l.invariant.2 c.of_file.ensures c.gives.ensures in
-    ap Err c.at.ensures ∙ found c.args.reason (differs p c.args.numbers.now ts) (length ts + 1) (l.i + 1) l.invariant.0 (omega arith) (sym e ∙ c.if-is_first-gives.true)
+    ap Err c.at.ensures ∙ found c.args.rule (differs p c.args.numbers.now ts) (length ts + 1) (l.i + 1) l.invariant.0 (omega arith) (sym e ∙ c.if-is_first-gives.true)
 
 pub loop-i-preserved : goal.loop-i-preserved
 loop-i-preserved c =
@@ -43,4 +43,4 @@ returns c =
     let l = c.loop-i in
     let ts = c.args.lines.now in
     let e : l.i ≡ length ts = omega arith in
-    unfound c.args.reason (differs (is_key c.args.key) c.args.numbers.now ts) (length ts + 1) (rw e at l.invariant.0)
+    unfound c.args.rule (differs (is_key c.args.key) c.args.numbers.now ts) (length ts + 1) (rw e at l.invariant.0)
