@@ -8,7 +8,7 @@ use mathlib.Core.Path.{◌≡◌, refl, sym, ap, ◌∙◌}
 use native.Mathlib.Omega.{arith}
 use borrow.Author.Tests.{ne_eqb}
 use denote.Enum.Declared.{tag_of}
-use types.Run.{OneOf}
+use types.Run.{OneOf, miss}
 use lib.Dec.{eqb}
 use lib.IntN.{ℤ}
 use lib.ListN.{get_or}
@@ -23,6 +23,7 @@ use Rattle.field.proofs.DigitLaws.{blank-number}
 use Rattle.field.proofs.TextLaws.{trimmed-first, trimmed-some}
 use Rattle.record.specs.declared.kind.Form.{Form}
 use Rattle.record.specs.declared.kind.Form.TheVariants.{Words, Code, Sign, Number, Size}
+use Rattle.record.specs.Table.{is_n}
 use Rattle.record.specs.Says.{Said, missing, number, text, coordinate, said_as, is_missing, number_in, key_in, letter_in, place_of, place_in, text_said}
 use Rattle.record.specs.contracts.kind.Form.{the_type}
 
@@ -183,3 +184,11 @@ number-key form t b e = rw e (go (all_of Blank t) (number_written t))
         → key_in (pick blank missing (number n)) ≡ pick (is_missing (pick blank missing (number n))) 0 (number_in (pick blank missing (number n)) + 1)
     go true n = refl
     go false n = refl
+
+-- a text's form is no number's
+pub text-no-n : (form : Form) → Among texts form → is_n form ≡ true → ⊥
+text-no-n Words h e = true-false (sym e)
+text-no-n Code h e = true-false (sym e)
+text-no-n Sign h e = true-false (sym e)
+text-no-n Number h e = miss texts 3 tt h
+text-no-n Size h e = miss texts 4 tt h
