@@ -1,4 +1,4 @@
--- Reasons by their numbers (document 02, W-206), and what a search for the first line that breaks a rule tells.
+-- Rules, each with its reason's number (document 02, W-206), and what a search for the first line that breaks one tells.
 -- Assumes nothing.
 use Rattle.std.specs.Prelude.{ℕ, Bool, Result, Ok, Err}
 use Rattle.std.proofs.Math.Option.{Option, none, some}

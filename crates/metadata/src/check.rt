@@ -3,7 +3,7 @@ ghost use Rattle.std.specs.Prelude.{◌≡◌, ◌*◌, ◌<◌, ◌≤◌, ◌�
 ghost use Rattle.metadata.specs.Lines.{most_lines};
 ghost use Rattle.metadata.specs.Rules.{fault_of};
 
-use crate::cut::{FEW_LINES, MOST_LINES, cut_lines};
+use crate::cut::{FEW_LINES, MOST_LINES, SOME_LINES, cut_lines};
 use crate::fault::Fault;
 use crate::rules::check_lines;
 use crate::told::Told;
@@ -25,6 +25,8 @@ pub fn check_metadata(m: &[u8], counts: &[u64], sizes: &[u64]) -> Result<(), Fau
 {
     if m.len() < 2 * FEW_LINES {
         check_in::<FEW_LINES>(m, counts, sizes)
+    } else if m.len() < 2 * SOME_LINES {
+        check_in::<SOME_LINES>(m, counts, sizes)
     } else {
         check_in::<MOST_LINES>(m, counts, sizes)
     }

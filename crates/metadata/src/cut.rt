@@ -9,8 +9,10 @@ use field::class::byte;
 
 pub(crate) const MOST_LINES: usize = 2048;
 
-// A file of fewer than twice as many bytes has no more lines, since an end mark is two bytes.
+// Of so many lines a file has no more where it is of fewer than twice as many bytes, since an end mark is two.
 pub(crate) const FEW_LINES: usize = 512;
+
+pub(crate) const SOME_LINES: usize = 1024;
 
 const LONGEST: usize = 256;
 
