@@ -108,7 +108,8 @@ fn tally_nodes<'a>(
 }
 
 // Each file's tally, with those of the tramos and the vertices and the nodes in hand. No rule of the fifties is read of CATALOGO, OB_TEX and
-// OB_COMP.
+// OB_COMP. (Its two arrays stay out of its callers' frames: of a file that is too big the programs take no room for them.)
+#[inline(never)]
 pub(crate) fn tally_in_hand<'a, const N: usize, const H: usize>(
     files: [&'a [u8]; FILES],
     tramos: Tally,
